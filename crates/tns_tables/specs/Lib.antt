@@ -1,1 +1,4 @@
+-- What a reader has to believe of this layer, in the order of document 01's headings.
 pub mod Tables
+pub mod Rules
+pub mod Quantizer
