@@ -2,3 +2,5 @@
 pub mod Tables
 pub mod Rules
 pub mod Quantizer
+pub mod QuantizerRules
+pub mod Sines
