@@ -1,10 +1,19 @@
 // The lower layer.
+mod cost;
 mod quantizer;
+mod refusal;
 mod tables;
 
+pub use cost::CostAnswer;
+pub use cost::cost;
+pub use cost::filter_bits;
 pub use quantizer::coefficient_of;
 pub use quantizer::index_of;
 pub use quantizer::order_of;
+pub use refusal::Over;
+pub use refusal::Refusal;
+pub use refusal::SideAnswer;
+pub use refusal::check_side;
 pub use tables::coef_bits;
 pub use tables::coef_cumfreq;
 pub use tables::coef_freq;

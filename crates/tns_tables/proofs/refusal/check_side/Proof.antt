@@ -1,0 +1,112 @@
+-- `tns_tables::refusal::check_side` meets its contract: each return goes through the checks before it, in number order.
+-- Assumes nothing.
+use mathlib.Core.Path.{_≡_, refl, sym, _∙_, ap}
+use mathlib.Core.List.{List}
+use Prim.Native.Nat.{ℕ, _<_, _≤_}
+use native.Mathlib.Omega.{arith}
+use borrow.Author.Needs.{needs}
+use borrow.Author.Tests.{lt-ltb, le-ltb, eq-eqb, ne-eqb}
+use lib.ListN.{length}
+use Rattle.tns_tables.specs.Refusals.{Verdict, accepted, refused, refusedAt, sideChecks, lowestOver, checkAt}
+use Rattle.tns_tables.specs.declared.refusal.Over.{Over}
+use Rattle.tns_tables.specs.declared.refusal.Over.the-variants.{Nowhere, At}
+use Rattle.tns_tables.proofs.refusal.check_side.Statement.{statement}
+use Rattle.tns_tables.proofs.refusal.check_side.Tie as tie
+
+module _ {A : Type 0} (filters : ℕ) (orders indices : List ℕ) (next : Verdict A) where
+  orders-fail : (length orders ≡ 2 → ⊥) → refused 4 ≡ sideChecks filters orders indices next
+  unfolding sideChecks
+  orders-fail h = simp (ne-eqb _ _ h)
+
+  module _ (two : length orders ≡ 2) where
+    indices-fail : (length indices ≡ 16 → ⊥) → refused 4 ≡ sideChecks filters orders indices next
+    unfolding sideChecks
+    indices-fail h = simp (eq-eqb _ _ two, ne-eqb _ _ h)
+
+    module _ (sixteen : length indices ≡ 16) where
+      count-fails : 2 < filters → refused 5 ≡ sideChecks filters orders indices next
+      unfolding sideChecks
+      count-fails h = simp (eq-eqb _ _ two, eq-eqb _ _ sixteen, lt-ltb _ _ h)
+
+      -- what is left once 4 and 5 find no fault
+      left : filters ≤ 2 → sideChecks filters orders indices next ≡ checkAt 6 (lowestOver 8 0 orders) (checkAt 7 (lowestOver 16 0 indices) next)
+      unfolding sideChecks
+      left h = simp (eq-eqb _ _ two, eq-eqb _ _ sixteen, le-ltb _ _ h)
+
+-- past the first three tests
+after-tests : (e : tie.Else3) →
+    let g = e .before .before .before .before .before .args in
+    sideChecks (g .filters) (g .orders .now) (g .indices .now) (accepted (tt {0}))
+    ≡ checkAt 6 (lowestOver 8 0 (g .orders .now)) (checkAt 7 (lowestOver 16 0 (g .indices .now)) (accepted tt))
+after-tests e =
+    let g = e .before .before .before .before .before .args in
+    left (g .filters) (g .orders .now) (g .indices .now) (accepted tt) (e .before .before .if1 .left) (e .before .if2 .left) (e .if3 .left)
+
+returns : tie.Need-returns
+returns c =
+    let g = c .before .before .before .args in
+    orders-fail (g .filters) (g .orders .now) (g .indices .now) (accepted tt) (c .if1 .taken)
+
+returns-2 : tie.Need-returns-2
+returns-2 c =
+    let g = c .before .before .before .before .args in
+    indices-fail (g .filters) (g .orders .now) (g .indices .now) (accepted tt) (c .before .if1 .left) (c .if2 .taken)
+
+returns-3 : tie.Need-returns-3
+returns-3 c =
+    let g = c .before .before .before .before .before .args in
+    count-fails (g .filters) (g .orders .now) (g .indices .now) (accepted tt) (c .before .before .if1 .left) (c .before .if2 .left) (c .if3 .taken)
+
+lowest-over-requires : tie.Need-lowest-over-requires
+lowest-over-requires c κs = search needs
+
+enum-known-order : tie.Need-enum-known-order
+enum-known-order c = search needs
+
+returns-4 : tie.Need-returns-4
+returns-4 c =
+    let called = c .before .before .before in
+    sym (after-tests (called .before) ∙ rw (sym (called .lowest-over .ensures) ∙ c .before .order .given .1))
+
+enum-told : tie.Need-enum-told
+enum-told c = search needs
+
+lowest-over-requires-2 : tie.Need-lowest-over-requires-2
+lowest-over-requires-2 c κs = search needs
+
+enum-known-index : tie.Need-enum-known-index
+enum-known-index c = search needs
+
+returns-5 : tie.Need-returns-5
+returns-5 c =
+    let called2 = c .before .before .before in
+    let called = called2 .before .before .before in
+    sym (after-tests (called .before) ∙ rw (sym (called .lowest-over .ensures) ∙ called2 .before .enum-told .given .1)
+    (rw (sym (called2 .lowest-over2 .ensures) ∙ c .before .index .given .1)))
+
+enum-told-2 : tie.Need-enum-told-2
+enum-told-2 c = search needs
+
+returns-6 : tie.Need-returns-6
+returns-6 c =
+    let called2 = c .before .before in
+    let called = called2 .before .before .before in
+    sym (after-tests (called .before) ∙ rw (sym (called .lowest-over .ensures) ∙ called2 .before .enum-told .given .1)
+    (rw (sym (called2 .lowest-over2 .ensures) ∙ c .enum-told2 .given .1)))
+
+pub check-side-spec : {M : Type 1} → statement M
+check-side-spec =
+    tie.close
+    (tie.spec
+    returns
+    returns-2
+    returns-3
+    lowest-over-requires
+    enum-known-order
+    returns-4
+    enum-told
+    lowest-over-requires-2
+    enum-known-index
+    returns-5
+    enum-told-2
+    returns-6)

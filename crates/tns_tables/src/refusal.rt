@@ -1,0 +1,119 @@
+// The refusals of document 01, for every call of the library, and the one place that decides 4 to 7,
+// for decode and cost. Assumes nothing.
+ghost use mathlib.Core.Path.{_≡_};
+ghost use Rattle.tns_tables.specs.Refusals.{accepted, says, numberIn, placeIn, foundIn, lowestOver, sideChecks, sideSays};
+
+// Why a call is refused, in the order of document 01's numbers 1 to 8. A refusal of an order or an
+// index holds the lowest bad place and the number found there.
+pub enum Refusal {
+    Duration,
+    Bandwidth,
+    SpectrumLength,
+    ListLength,
+    FilterCount,
+    Order { place: usize, found: u8 },
+    Index { place: usize, found: u8 },
+    Weighting,
+}
+
+impl Refusal {
+    // Document 01's number.
+    pub fn number(self) -> u8
+        ensures { λ r. ⌜ r ≡ numberIn (says {A = Unit {0}} self) ⌝ }
+    {
+        match self {
+            Refusal::Duration => 1,
+            Refusal::Bandwidth => 2,
+            Refusal::SpectrumLength => 3,
+            Refusal::ListLength => 4,
+            Refusal::FilterCount => 5,
+            Refusal::Order { place: _, found: _ } => 6,
+            Refusal::Index { place: _, found: _ } => 7,
+            Refusal::Weighting => 8,
+        }
+    }
+
+    // The lowest bad place of refusals 6 and 7, and 0 of the others.
+    pub fn place(self) -> usize
+        ensures { λ r. ⌜ r ≡ placeIn (says {A = Unit {0}} self) ⌝ }
+    {
+        match self {
+            Refusal::Order { place, found: _ } => place,
+            Refusal::Index { place, found: _ } => place,
+            Refusal::Duration => 0,
+            Refusal::Bandwidth => 0,
+            Refusal::SpectrumLength => 0,
+            Refusal::ListLength => 0,
+            Refusal::FilterCount => 0,
+            Refusal::Weighting => 0,
+        }
+    }
+
+    // The number found at that place, and 0 of the others.
+    pub fn found(self) -> u8
+        ensures { λ r. ⌜ r ≡ foundIn (says {A = Unit {0}} self) ⌝ }
+    {
+        match self {
+            Refusal::Order { place: _, found } => found,
+            Refusal::Index { place: _, found } => found,
+            Refusal::Duration => 0,
+            Refusal::Bandwidth => 0,
+            Refusal::SpectrumLength => 0,
+            Refusal::ListLength => 0,
+            Refusal::FilterCount => 0,
+            Refusal::Weighting => 0,
+        }
+    }
+}
+
+// What a search for a number over a limit finds.
+pub enum Over {
+    Nowhere,
+    At { place: usize, found: u8 },
+}
+
+// The lowest place whose number is over `limit`.
+fn lowest_over(numbers: &[u8], limit: u8) -> Over
+    ensures { λ r. ⌜ r ≡ lowestOver limit 0 (now (numbers .entry)) ⌝ }
+{
+    let mut place = 0usize;
+    while place < numbers.len() {
+        let found = numbers[place];
+        if found > limit {
+            return Over::At { place, found };
+        }
+        place += 1;
+    }
+    Over::Nowhere
+}
+
+// What the checks 4 to 7 say.
+pub enum SideAnswer {
+    Sound,
+    Refused(Refusal),
+}
+
+// The checks of side data that decode and cost share: refusals 4 to 7, in number order, the first
+// standing. Orders and indices are checked whether a filter uses them or not.
+pub fn check_side(filters: u8, orders: &[u8], indices: &[u8]) -> SideAnswer
+    ensures { λ r. ⌜ sideSays r ≡ sideChecks filters (now (orders .entry)) (now (indices .entry)) (accepted tt) ⌝ }
+{
+    if orders.len() != 2 {
+        return SideAnswer::Refused(Refusal::ListLength);
+    }
+    if indices.len() != 16 {
+        return SideAnswer::Refused(Refusal::ListLength);
+    }
+    if filters > 2 {
+        return SideAnswer::Refused(Refusal::FilterCount);
+    }
+    let order = lowest_over(orders, 8);
+    if let Over::At { place, found } = order {
+        return SideAnswer::Refused(Refusal::Order { place, found });
+    }
+    let index = lowest_over(indices, 16);
+    if let Over::At { place, found } = index {
+        return SideAnswer::Refused(Refusal::Index { place, found });
+    }
+    SideAnswer::Sound
+}
