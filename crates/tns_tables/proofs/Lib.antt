@@ -1,3 +1,5 @@
 -- The laws that belong to no one function.
 pub mod Outside
 pub mod Indices
+pub mod Costs
+pub mod Sides

@@ -6,8 +6,8 @@ use lib.Dec.{ltb}
 use lib.ListN.{take, drop}
 use Rattle.tns_tables.specs.Tables.{cell, ofOrder, orderBits, coefBits}
 use Rattle.tns_tables.specs.Refusals.{Verdict, accepted, refused, check, sideChecks, says}
-use Rattle.tns_tables.specs.declared.cost.CostAnswer.{CostAnswer}
-use Rattle.tns_tables.specs.declared.cost.CostAnswer.the-variants.{Bits, Refused}
+use Rattle.tns_tables.specs.declared.budget.CostAnswer.{CostAnswer}
+use Rattle.tns_tables.specs.declared.budget.CostAnswer.the-variants.{Bits, Refused}
 
 -- Table T: what an order costs, and what an index costs at its place, in 2048ths of a bit
 unfoldable pub orderCost : ℕ → ℕ → ℕ

@@ -1,8 +1,9 @@
 -- Document 01, "Refusal numbers": what a call answers, in the paper's numbers, and the checks that decide 4 to 7.
 -- Assumes nothing.
-use mathlib.Core.Bool.{Bool, true, false, _&&_, _||_, not, cond}
+use mathlib.Core.Path.{_≡_}
+use mathlib.Core.Bool.{Bool, true, false, _||_, not, cond}
 use mathlib.Core.List.{List, [], _∷_}
-use Prim.Native.Nat.{ℕ, suc}
+use Prim.Native.Nat.{ℕ, suc, _≤_}
 use lib.Dec.{ltb, eqb}
 use lib.ListN.{length}
 use Rattle.tns_tables.specs.declared.refusal.Refusal.{Refusal}
@@ -67,7 +68,19 @@ sideChecks filters orders indices next =
     (checkAt 7 (lowestOver 16 0 indices)
     next)))
 
+-- Side data that none of these checks refuses. Behind a door this may be relied on.
+pub record SoundSide (filters : ℕ) (orders indices : List ℕ) : Type 0 where
+  pub two-orders : length orders ≡ 2
+  pub sixteen-indices : length indices ≡ 16
+  pub count-at-most-2 : filters ≤ 2
+  pub orders-at-most-8 : lowestOver 8 0 orders ≡ Nowhere
+  pub indices-at-most-16 : lowestOver 16 0 indices ≡ Nowhere
+
+-- what the checks say of a call before it has a result
+abbrev pub noFault : Verdict (Unit {0})
+noFault = accepted tt
+
 -- what the shared check of 4 to 7 says
 abbrev pub sideSays : SideAnswer → Verdict (Unit {0})
-sideSays Sound = accepted tt
+sideSays Sound = noFault
 sideSays (Refused why) = says why

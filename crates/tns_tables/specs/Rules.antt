@@ -46,19 +46,23 @@ pub cumulatives-rise : allRise orderFreq orderCumfreq && allRise coefFreq coefCu
 unfolding allRise
 cumulatives-rise = refl
 
--- no index costs more than 20480
+-- no order and no index costs more than 20480
 unfoldable pub affordable : List ℕ → Bool
 affordable = every (λ cost. leb cost 20480)
 
-pub index-costs-bounded : every affordable coefBits ≡ true
+pub order-costs-affordable : every affordable orderBits ≡ true
 unfolding affordable
-index-costs-bounded = refl
+order-costs-affordable = refl
+
+pub index-costs-affordable : every affordable coefBits ≡ true
+unfolding affordable
+index-costs-affordable = refl
 
 -- An order's cost and 20480 for each of its indices stay within 83 whole bits. The order is counted from the one given.
 unfoldable pub withinFrom : ℕ → List ℕ → Bool
 withinFrom order [] = true
 withinFrom order (cost ∷ costs) = leb (cost + 20480 * order) (83 * 2048) && withinFrom (suc order) costs
 
-pub order-costs-bounded : every (withinFrom 1) orderBits ≡ true
+pub order-costs-within : every (withinFrom 1) orderBits ≡ true
 unfolding withinFrom
-order-costs-bounded = refl
+order-costs-within = refl

@@ -1,12 +1,12 @@
 // The lower layer.
-mod cost;
+mod budget;
 mod quantizer;
 mod refusal;
 mod tables;
 
-pub use cost::CostAnswer;
-pub use cost::cost;
-pub use cost::filter_bits;
+pub use budget::CostAnswer;
+pub use budget::cost;
+pub use budget::filter_bits;
 pub use quantizer::coefficient_of;
 pub use quantizer::index_of;
 pub use quantizer::order_of;

@@ -1,7 +1,7 @@
 // The refusals of document 01, for every call of the library, and the one place that decides 4 to 7,
 // for decode and cost. Assumes nothing.
 ghost use mathlib.Core.Path.{_≡_};
-ghost use Rattle.tns_tables.specs.Refusals.{accepted, says, numberIn, placeIn, foundIn, lowestOver, sideChecks, sideSays};
+ghost use Rattle.tns_tables.specs.Refusals.{noFault, says, numberIn, placeIn, foundIn, lowestOver, sideChecks, sideSays};
 
 // Why a call is refused, in the order of document 01's numbers 1 to 8. A refusal of an order or an
 // index holds the lowest bad place and the number found there.
@@ -96,7 +96,7 @@ pub enum SideAnswer {
 // The checks of side data that decode and cost share: refusals 4 to 7, in number order, the first
 // standing. Orders and indices are checked whether a filter uses them or not.
 pub fn check_side(filters: u8, orders: &[u8], indices: &[u8]) -> SideAnswer
-    ensures { λ r. ⌜ sideSays r ≡ sideChecks filters (now (orders .entry)) (now (indices .entry)) (accepted tt) ⌝ }
+    ensures { λ r. ⌜ sideSays r ≡ sideChecks filters (now (orders .entry)) (now (indices .entry)) noFault ⌝ }
 {
     if orders.len() != 2 {
         return SideAnswer::Refused(Refusal::ListLength);

@@ -7,7 +7,7 @@ use native.Mathlib.Omega.{arith}
 use borrow.Author.Needs.{needs}
 use borrow.Author.Tests.{lt-ltb, le-ltb, eq-eqb, ne-eqb}
 use lib.ListN.{length}
-use Rattle.tns_tables.specs.Refusals.{Verdict, accepted, refused, refusedAt, sideChecks, lowestOver, checkAt}
+use Rattle.tns_tables.specs.Refusals.{Verdict, noFault, refused, refusedAt, sideChecks, lowestOver, checkAt}
 use Rattle.tns_tables.specs.declared.refusal.Over.{Over}
 use Rattle.tns_tables.specs.declared.refusal.Over.the-variants.{Nowhere, At}
 use Rattle.tns_tables.proofs.refusal.check_side.Statement.{statement}
@@ -36,26 +36,26 @@ module _ {A : Type 0} (filters : ℕ) (orders indices : List ℕ) (next : Verdic
 -- past the first three tests
 after-tests : (e : tie.Else3) →
     let g = e .before .before .before .before .before .args in
-    sideChecks (g .filters) (g .orders .now) (g .indices .now) (accepted (tt {0}))
-    ≡ checkAt 6 (lowestOver 8 0 (g .orders .now)) (checkAt 7 (lowestOver 16 0 (g .indices .now)) (accepted tt))
+    sideChecks (g .filters) (g .orders .now) (g .indices .now) noFault
+    ≡ checkAt 6 (lowestOver 8 0 (g .orders .now)) (checkAt 7 (lowestOver 16 0 (g .indices .now)) noFault)
 after-tests e =
     let g = e .before .before .before .before .before .args in
-    left (g .filters) (g .orders .now) (g .indices .now) (accepted tt) (e .before .before .if1 .left) (e .before .if2 .left) (e .if3 .left)
+    left (g .filters) (g .orders .now) (g .indices .now) noFault (e .before .before .if1 .left) (e .before .if2 .left) (e .if3 .left)
 
 returns : tie.Need-returns
 returns c =
     let g = c .before .before .before .args in
-    orders-fail (g .filters) (g .orders .now) (g .indices .now) (accepted tt) (c .if1 .taken)
+    orders-fail (g .filters) (g .orders .now) (g .indices .now) noFault (c .if1 .taken)
 
 returns-2 : tie.Need-returns-2
 returns-2 c =
     let g = c .before .before .before .before .args in
-    indices-fail (g .filters) (g .orders .now) (g .indices .now) (accepted tt) (c .before .if1 .left) (c .if2 .taken)
+    indices-fail (g .filters) (g .orders .now) (g .indices .now) noFault (c .before .if1 .left) (c .if2 .taken)
 
 returns-3 : tie.Need-returns-3
 returns-3 c =
     let g = c .before .before .before .before .before .args in
-    count-fails (g .filters) (g .orders .now) (g .indices .now) (accepted tt) (c .before .before .if1 .left) (c .before .if2 .left) (c .if3 .taken)
+    count-fails (g .filters) (g .orders .now) (g .indices .now) noFault (c .before .before .if1 .left) (c .before .if2 .left) (c .if3 .taken)
 
 lowest-over-requires : tie.Need-lowest-over-requires
 lowest-over-requires c κs = search needs

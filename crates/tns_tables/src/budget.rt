@@ -7,7 +7,7 @@ use crate::tables::coef_bits;
 use crate::tables::order_bits;
 ghost use mathlib.Core.Path.{_≡_};
 ghost use Prim.Native.Nat.{_≤_, min};
-ghost use lib.ListN.{length};
+ghost use Rattle.tns_tables.specs.Refusals.{SoundSide};
 ghost use Rattle.tns_tables.specs.Cost.{filterCost, filterBits, countedBits, costOf, costSays, bitsIn};
 
 // The answer of `cost`: the bits, or why there are none.
@@ -51,7 +51,7 @@ pub fn filter_bits(weighting: u8, order: u8, indices: &[u8]) -> u16
 
 // The bits of the counted filters.
 fn counted_bits(weighting: u8, filters: u8, orders: &[u8], indices: &[u8]) -> u16
-    requires { ⌜ (filters ≤ 2) × (length (now orders) ≡ 2) × (length (now indices) ≡ 16) ⌝ }
+    requires { ⌜ SoundSide filters (now orders) (now indices) ⌝ }
     ensures { λ r. ⌜ r ≡ countedBits weighting filters (now (orders .entry)) (now (indices .entry)) ⌝ }
 {
     if filters == 0 {

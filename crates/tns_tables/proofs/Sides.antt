@@ -1,0 +1,88 @@
+-- Laws of the shared checks 4 to 7: what they leave to the checks after them, and what is known once they find no fault.
+-- Assumes nothing.
+use mathlib.Core.Path.{_≡_, refl, sym, _∙_, ap}
+use mathlib.Core.Bool.{Bool, true, false, _||_, not, cond}
+use mathlib.Core.List.{List, [], _∷_}
+use Prim.Native.Nat.{ℕ, zero, suc, _+_, _≤_, _<_}
+use native.Mathlib.Omega.{arith}
+use lib.Dec.{ltb, eqb}
+use borrow.Author.Tests.{ltb-true, ltb-false, eqb-true}
+use lib.ListN.{length, getD}
+use Rattle.tns_tables.specs.Refusals.{Verdict, accepted, refused, refusedAt, noFault, says, check, checkAt, sideChecks, lowestOver, SoundSide}
+use Rattle.tns_tables.specs.declared.refusal.Refusal.{Refusal}
+use Rattle.tns_tables.specs.declared.refusal.Refusal.the-variants.{Duration, Bandwidth, SpectrumLength, ListLength, FilterCount, Order, Index, Weighting}
+use Rattle.tns_tables.specs.declared.refusal.Over.{Over}
+use Rattle.tns_tables.specs.declared.refusal.Over.the-variants.{Nowhere, At}
+
+-- the first refusal stands; an accepted call leaves the answer to what follows
+abbrev pub settle : {B : Type 0} → Verdict (Unit {0}) → Verdict B → Verdict B
+settle (accepted a) next = next
+settle (refused number) next = refused number
+settle (refusedAt number place found) next = refusedAt number place found
+
+-- a refusal is said the same way of every call
+pub settle-says : {B : Type 0} (why : Refusal) (next : Verdict B) → settle (says why) next ≡ says why
+settle-says Duration next = refl
+settle-says Bandwidth next = refl
+settle-says SpectrumLength next = refl
+settle-says ListLength next = refl
+settle-says FilterCount next = refl
+settle-says (Order place found) next = refl
+settle-says (Index place found) next = refl
+settle-says Weighting next = refl
+
+-- the shared checks answer the same whatever follows them
+pub sides-settle : {A : Type 0} (filters : ℕ) (orders indices : List ℕ) (next : Verdict A)
+    → sideChecks filters orders indices next ≡ settle (sideChecks filters orders indices noFault) next
+unfolding sideChecks
+sides-settle {A} filters orders indices next =
+    cases (not (eqb (length orders) 2) || not (eqb (length indices) 16)) (ltb 2 filters) (lowestOver 8 0 orders) (lowestOver 16 0 indices)
+  where
+    cases : (a b : Bool) (o i : Over)
+        → check 4 a (check 5 b (checkAt 6 o (checkAt 7 i next))) ≡ settle (check 4 a (check 5 b (checkAt 6 o (checkAt 7 i noFault)))) next
+    cases true b o i = refl
+    cases false true o i = refl
+    cases false false (At p f) i = refl
+    cases false false Nowhere (At p f) = refl
+    cases false false Nowhere Nowhere = refl
+
+-- what is known once they find no fault
+pub sound-side : (filters : ℕ) (orders indices : List ℕ) → sideChecks filters orders indices noFault ≡ noFault → SoundSide filters orders indices
+unfolding sideChecks
+sound-side filters orders indices =
+    cases (eqb (length orders) 2) refl (eqb (length indices) 16) refl (ltb 2 filters) refl (lowestOver 8 0 orders) refl (lowestOver 16 0 indices) refl
+  where
+    cases : (a : Bool) → eqb (length orders) 2 ≡ a → (b : Bool) → eqb (length indices) 16 ≡ b → (n : Bool) → ltb 2 filters ≡ n
+        → (o : Over) → lowestOver 8 0 orders ≡ o → (i : Over) → lowestOver 16 0 indices ≡ i
+        → check 4 (not a || not b) (check 5 n (checkAt 6 o (checkAt 7 i noFault))) ≡ noFault → SoundSide filters orders indices
+    cases false ea b eb n en o eo i ei e = let z : _≡_ {A = ℕ} 0 1 = cc in absurd (omega arith)
+    cases true ea false eb n en o eo i ei e = let z : _≡_ {A = ℕ} 0 1 = cc in absurd (omega arith)
+    cases true ea true eb true en o eo i ei e = let z : _≡_ {A = ℕ} 0 1 = cc in absurd (omega arith)
+    cases true ea true eb false en (At p f) eo i ei e = let z : _≡_ {A = ℕ} 0 1 = cc in absurd (omega arith)
+    cases true ea true eb false en Nowhere eo (At p f) ei e = let z : _≡_ {A = ℕ} 0 1 = cc in absurd (omega arith)
+    cases true ea true eb false en Nowhere eo Nowhere ei e =
+        record {
+          two-orders = eqb-true (length orders) 2 ea;
+          sixteen-indices = eqb-true (length indices) 16 eb;
+          count-at-most-2 = ltb-false 2 filters en;
+          orders-at-most-8 = eo;
+          indices-at-most-16 = ei;
+        }
+
+-- where no number is over the limit, none is after the first, and the first is at most the limit
+first-fine : (limit place x : ℕ) (xs : List ℕ) → lowestOver limit place (x ∷ xs) ≡ Nowhere → (x ≤ limit) × (lowestOver limit (suc place) xs ≡ Nowhere)
+unfolding lowestOver
+first-fine limit place x xs e = cases (ltb limit x) refl e
+  where
+    cases : (b : Bool) → ltb limit x ≡ b → cond b (At place x) (lowestOver limit (suc place) xs) ≡ Nowhere → (x ≤ limit) × (lowestOver limit (suc place) xs ≡ Nowhere)
+    cases true eb e = let z : _≡_ {A = ℕ} 0 1 = cc in absurd (omega arith)
+    cases false eb e = (ltb-false limit x eb, e)
+
+pub none-further : (limit place x : ℕ) (xs : List ℕ) → lowestOver limit place (x ∷ xs) ≡ Nowhere → lowestOver limit (suc place) xs ≡ Nowhere
+none-further limit place x xs e = first-fine limit place x xs e .1
+
+-- each is at most the limit
+pub none-over : (limit place : ℕ) (xs : List ℕ) → lowestOver limit place xs ≡ Nowhere → (i : ℕ) → getD xs i 0 ≤ limit
+none-over limit place [] e i = omega arith
+none-over limit place (x ∷ xs) e zero = first-fine limit place x xs e .0
+none-over limit place (x ∷ xs) e (suc i) = none-over limit (suc place) xs (none-further limit place x xs e) i
