@@ -3,12 +3,16 @@
 use mathlib.Core.Path.{_≡_, refl}
 use mathlib.Core.Bool.{Bool, true, false, _&&_, cond}
 use mathlib.Core.List.{List, [], _∷_}
-use Prim.Native.Nat.{ℕ, zero, suc, _+_, _-_, _≤_}
+use Prim.Native.Nat.{ℕ, zero, suc, _+_, _-_, _≤_, _<_}
+use native.Mathlib.Nat.{le-of-suc-le-suc, not-suc-le-zero}
 use native.Mathlib.Omega.{arith}
 use lib.Dec.{eqb}
 use lib.Ieee.{Float, le, neg}
-use lib.ListN.{length}
-use Rattle.tns_tables.specs.Quantizer.{notAbove, indexOf, orderFrom, orderOf, thresholds, plusZero, one}
+use borrow.Author.Tests.{eqb-true}
+use lib.ListN.{length, getD}
+use Rattle.tns_tables.specs.Quantizer.{notAbove, indexOf, coefficientOf, coefficients, orderFrom, orderOf, thresholds, plusZero, one}
+use Rattle.tns_tables.specs.QuantizerRules.{countUp, indices-agree}
+use Rattle.tns_tables.proofs.Outside.{and-left, and-right}
 
 pub at-most-all : (x : Float) (ts : List Float) → notAbove x ts ≤ length ts
 unfolding notAbove
@@ -44,3 +48,14 @@ order-from-at-most passed found (i ∷ is) h =
 pub order-at-most : (is : List ℕ) → orderOf is ≤ length is
 unfolding orderOf
 order-at-most is = omega (arith, order-from-at-most 0 0 is (omega arith))
+
+count-up-at : (j : ℕ) (xs : List Float) → countUp j xs ≡ true → (d : Float) (i : ℕ) → i < length xs → indexOf (getD xs i d) ≡ j + i
+unfolding countUp
+count-up-at j [] e d i h = absurd (not-suc-le-zero h)
+count-up-at j (x ∷ xs) e d zero h = omega (arith, eqb-true (indexOf x) j (and-left (eqb (indexOf x) j) (countUp (suc j) xs) e))
+count-up-at j (x ∷ xs) e d (suc i) h = omega (arith, count-up-at (suc j) xs (and-right (eqb (indexOf x) j) (countUp (suc j) xs) e) d i (le-of-suc-le-suc h))
+
+-- index and coefficient agree
+pub index-of-coefficient : (i : ℕ) → i < 17 → indexOf (coefficientOf i) ≡ i
+unfolding coefficientOf
+index-of-coefficient i h = omega (arith, count-up-at 0 coefficients indices-agree plusZero i h)

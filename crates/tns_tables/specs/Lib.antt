@@ -6,3 +6,4 @@ pub mod QuantizerRules
 pub mod Sines
 pub mod Refusals
 pub mod Cost
+pub mod Records

@@ -1,6 +1,7 @@
 // The lower layer.
 mod budget;
 mod quantizer;
+mod record;
 mod refusal;
 mod tables;
 
@@ -10,6 +11,8 @@ pub use budget::filter_bits;
 pub use quantizer::coefficient_of;
 pub use quantizer::index_of;
 pub use quantizer::order_of;
+pub use record::RecordAnswer;
+pub use record::record_cost;
 pub use refusal::Over;
 pub use refusal::Refusal;
 pub use refusal::SideAnswer;
