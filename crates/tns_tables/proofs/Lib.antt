@@ -3,3 +3,4 @@ pub mod Outside
 pub mod Indices
 pub mod Costs
 pub mod Sides
+pub mod Determined
