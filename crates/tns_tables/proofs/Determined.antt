@@ -66,7 +66,7 @@ Determined n ps r Post =
 
 -- ---- a result that says itself
 
-itself : {A : Type 0} {x y v : A} → x ≡ v → y ≡ v → x ≡ y
+pub itself : {A : Type 0} {x y v : A} → x ≡ v → y ≡ v → x ≡ y
 itself p q = coincide (λ a. a) (λ a. a) (λ a. refl) p q
 
 coef-bits : Determined 0 coef-bits-kinds.ps coef-bits-kinds.r coef-bits-reads.Post

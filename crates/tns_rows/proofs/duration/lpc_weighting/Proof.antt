@@ -1,0 +1,34 @@
+-- `tns_rows::duration::lpc_weighting` meets its contract: one law over the limit serves both durations.
+-- Assumes nothing.
+use mathlib.Core.Path.{_≡_}
+use Prim.Native.Nat.{ℕ, _<_, _≤_}
+use native.Mathlib.Omega.{arith}
+use borrow.Author.Needs.{needs}
+use borrow.Author.Tests.{lt-ltb, le-ltb}
+use Rattle.tns_rows.specs.Durations.{Kept, kept, weightingOf}
+use Rattle.tns_rows.proofs.duration.lpc_weighting.Statement.{statement}
+use Rattle.tns_rows.proofs.duration.lpc_weighting.Tie as tie
+
+below : (d : Kept) (nbits : ℕ) → nbits < d .weightingLimit → 1 ≡ weightingOf d nbits
+unfolding weightingOf
+below d nbits h = simp (lt-ltb _ _ h)
+
+from : (d : Kept) (nbits : ℕ) → d .weightingLimit ≤ nbits → 0 ≡ weightingOf d nbits
+unfolding weightingOf
+from d nbits h = simp (le-ltb _ _ h)
+
+weighting-limit-requires : tie.Need-weighting-limit-requires
+weighting-limit-requires c κs = search needs
+
+returns : tie.Need-returns
+returns c =
+    let g = c .before .before .args in
+    below (kept (g .duration)) (g .nbits) (omega (arith, c .before .weighting-limit .ensures))
+
+returns-2 : tie.Need-returns-2
+returns-2 c =
+    let g = c .before .before .args in
+    from (kept (g .duration)) (g .nbits) (omega (arith, c .before .weighting-limit .ensures))
+
+pub lpc-weighting-spec : {M : Type 1} → statement M
+lpc-weighting-spec = tie.close (tie.spec weighting-limit-requires returns returns-2)
