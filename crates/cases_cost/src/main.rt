@@ -2,8 +2,8 @@
 // held to the file `stdout`. The limits of each number, each refusal 4 to 8, refusals that meet, and
 // the ends of the index rule.
 use libc::STDOUT_FILENO;
+use tns_refusals::Refusal;
 use tns_tables::CostAnswer;
-use tns_tables::Refusal;
 ghost use Prim.Native.Nat.{_≤_};
 
 fn put(text: &[u8]) {

@@ -3,9 +3,9 @@
 // read and written here is tested and not proved.
 use libc::STDIN_FILENO;
 use libc::STDOUT_FILENO;
+use tns_refusals::Refusal;
 use tns_tables::CostAnswer;
 use tns_tables::RecordAnswer;
-use tns_tables::Refusal;
 
 fn put(text: &[u8]) -> bool {
     io::write_all(STDOUT_FILENO, text)

@@ -1,7 +1,7 @@
--- Any two results that a contract allows for one input coincide: the lower layer's law, cited for each public function of this crate.
+-- Any two results that a contract allows for one input coincide: the law of `tns_refusals`, cited for each public function of this crate.
 -- Assumes nothing.
 use mathlib.Core.Path.{_≡_, refl}
-use Rattle.tns_tables.proofs.Determined.{Determined, itself}
+use Rattle.tns_refusals.proofs.Determined.{Determined, itself}
 use Rattle.tns_rows.proofs.duration.lpc_weighting.Kinds as lpc-weighting-kinds
 use Rattle.tns_rows.proofs.duration.lpc_weighting.Reads as lpc-weighting-reads
 

@@ -10,7 +10,7 @@ use lib.Ieee.{Float, nan, neg, le, ofBits, binary32}
 use Rattle.tns_tables.specs.Rules.{every}
 use Rattle.tns_tables.specs.Tables.{ofOrder}
 use Rattle.tns_tables.specs.Quantizer.{indexOf, notAbove, one}
-use Rattle.tns_tables.specs.Refusals.{Verdict, accepted, refused, refusedAt, sideChecks, lowestOver}
+use Rattle.tns_refusals.specs.Refusals.{Verdict, accepted, refused, refusedAt, sideChecks, lowestOver}
 use Rattle.tns_tables.specs.Cost.{costOf, countedBits, filterBits, filterCost, orderCost, indexCost, indexCosts}
 use Rattle.tns_rows.specs.Durations.{kept, weightingOf}
 use Rattle.tns_rows.specs.declared.duration.Duration.{Duration}

@@ -12,9 +12,9 @@ use lib.ListN.{length, getD, take, drop, length-take}
 use Rattle.tns_tables.specs.Tables.{cell, ofOrder, orderBits, coefBits}
 use Rattle.tns_tables.specs.Rules.{every, affordable, withinFrom, order-costs-affordable, index-costs-affordable, order-costs-within}
 use Rattle.tns_tables.specs.Cost.{orderCost, indexCost, indexCosts, filterCost, filterBits, countedBits}
-use Rattle.tns_tables.specs.Refusals.{lowestOver}
-use Rattle.tns_tables.specs.declared.refusal.Over.the-variants.{Nowhere}
-use Rattle.tns_tables.proofs.Sides.{none-over, none-further}
+use Rattle.tns_refusals.specs.Refusals.{lowestOver}
+use Rattle.tns_refusals.specs.declared.Over.the-variants.{Nowhere}
+use Rattle.tns_refusals.proofs.Sides.{none-over, none-further}
 use Rattle.tns_tables.proofs.Outside.{and-left, and-right}
 
 -- what every member of a list passes, and the default too, is passed at every place

@@ -2,5 +2,4 @@
 pub mod Outside
 pub mod Indices
 pub mod Costs
-pub mod Sides
 pub mod Determined

@@ -4,6 +4,5 @@ pub mod Rules
 pub mod Quantizer
 pub mod QuantizerRules
 pub mod Sines
-pub mod Refusals
 pub mod Cost
 pub mod Records

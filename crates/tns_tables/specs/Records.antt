@@ -5,7 +5,7 @@ use mathlib.Core.List.{List}
 use Prim.Native.Nat.{ℕ}
 use lib.Dec.{ltb}
 use lib.ListN.{length, getD, take, drop}
-use Rattle.tns_tables.specs.Refusals.{Verdict}
+use Rattle.tns_refusals.specs.Refusals.{Verdict}
 use Rattle.tns_tables.specs.Cost.{costOf, costSays}
 use Rattle.tns_tables.specs.declared.record.RecordAnswer.{RecordAnswer}
 use Rattle.tns_tables.specs.declared.record.RecordAnswer.the-variants.{Short, Whole}

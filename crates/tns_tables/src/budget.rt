@@ -1,13 +1,13 @@
 // The cost of side data in bits: E's `calc_bit_budget` in whole numbers, and the door that checks its
 // input first. Assumes nothing.
-use crate::refusal::Refusal;
-use crate::refusal::SideAnswer;
-use crate::refusal::check_side;
 use crate::tables::coef_bits;
 use crate::tables::order_bits;
+use tns_refusals::Refusal;
+use tns_refusals::SideAnswer;
+use tns_refusals::check_side;
 ghost use mathlib.Core.Path.{_≡_};
 ghost use Prim.Native.Nat.{_≤_, min};
-ghost use Rattle.tns_tables.specs.Refusals.{SoundSide};
+ghost use Rattle.tns_refusals.specs.Refusals.{SoundSide};
 ghost use Rattle.tns_tables.specs.Cost.{filterCost, filterBits, countedBits, costOf, costSays, bitsIn};
 
 // The answer of `cost`: the bits, or why there are none.

@@ -1,8 +1,8 @@
-// The lower layer.
+// The lower layer: the tables, the index rule and the cost. Layers above rely on its contracts
+// alone. It knows nothing of frames. Assumes nothing.
 mod budget;
 mod quantizer;
 mod record;
-mod refusal;
 mod tables;
 
 pub use budget::CostAnswer;
@@ -13,10 +13,6 @@ pub use quantizer::index_of;
 pub use quantizer::order_of;
 pub use record::RecordAnswer;
 pub use record::record_cost;
-pub use refusal::Over;
-pub use refusal::Refusal;
-pub use refusal::SideAnswer;
-pub use refusal::check_side;
 pub use tables::coef_bits;
 pub use tables::coef_cumfreq;
 pub use tables::coef_freq;

@@ -7,10 +7,10 @@ use native.Mathlib.Omega.{arith}
 use borrow.Author.Needs.{needs}
 use borrow.Author.Tests.{lt-ltb, le-ltb}
 use lib.Dec.{ltb}
-use Rattle.tns_tables.specs.Refusals.{Verdict, accepted, noFault, refused, says, check, sideChecks, sideSays}
+use Rattle.tns_refusals.specs.Refusals.{Verdict, accepted, noFault, refused, says, check, sideChecks, sideSays}
 use Rattle.tns_tables.specs.Cost.{costOf, countedBits}
-use Rattle.tns_tables.specs.declared.refusal.Refusal.{Refusal}
-use Rattle.tns_tables.proofs.Sides.{settle, settle-says, sides-settle, sound-side}
+use Rattle.tns_refusals.specs.declared.Refusal.{Refusal}
+use Rattle.tns_refusals.proofs.Sides.{settle, settle-says, sides-settle, sound-side}
 use Rattle.tns_tables.proofs.Costs.{counted-bits-at-most}
 use Rattle.tns_tables.proofs.budget.cost.Statement.{statement}
 use Rattle.tns_tables.proofs.budget.cost.Tie as tie

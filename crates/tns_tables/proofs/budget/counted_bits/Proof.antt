@@ -7,7 +7,7 @@ use native.Mathlib.Omega.{arith}
 use borrow.Author.Needs.{needs}
 use lib.ListN.{length, getD, take, drop}
 use Rattle.tns_tables.specs.Cost.{countedBits, filterBits}
-use Rattle.tns_tables.proofs.Sides.{none-over}
+use Rattle.tns_refusals.proofs.Sides.{none-over}
 use Rattle.tns_tables.proofs.Costs.{filter-bits-at-most, one-counted, two-counted}
 use Rattle.tns_tables.proofs.budget.counted_bits.Statement.{statement}
 use Rattle.tns_tables.proofs.budget.counted_bits.Tie as tie

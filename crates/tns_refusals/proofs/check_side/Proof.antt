@@ -1,4 +1,4 @@
--- `tns_tables::refusal::check_side` meets its contract: each return goes through the checks before it, in number order.
+-- `tns_refusals::check_side` meets its contract: each return goes through the checks before it, in number order.
 -- Assumes nothing.
 use mathlib.Core.Path.{_≡_, refl, sym, _∙_, ap}
 use mathlib.Core.List.{List}
@@ -7,11 +7,11 @@ use native.Mathlib.Omega.{arith}
 use borrow.Author.Needs.{needs}
 use borrow.Author.Tests.{lt-ltb, le-ltb, eq-eqb, ne-eqb}
 use lib.ListN.{length}
-use Rattle.tns_tables.specs.Refusals.{Verdict, noFault, refused, refusedAt, sideChecks, lowestOver, checkAt}
-use Rattle.tns_tables.specs.declared.refusal.Over.{Over}
-use Rattle.tns_tables.specs.declared.refusal.Over.the-variants.{Nowhere, At}
-use Rattle.tns_tables.proofs.refusal.check_side.Statement.{statement}
-use Rattle.tns_tables.proofs.refusal.check_side.Tie as tie
+use Rattle.tns_refusals.specs.Refusals.{Verdict, noFault, refused, refusedAt, sideChecks, lowestOver, checkAt}
+use Rattle.tns_refusals.specs.declared.Over.{Over}
+use Rattle.tns_refusals.specs.declared.Over.the-variants.{Nowhere, At}
+use Rattle.tns_refusals.proofs.check_side.Statement.{statement}
+use Rattle.tns_refusals.proofs.check_side.Tie as tie
 
 module _ {A : Type 0} (filters : ℕ) (orders indices : List ℕ) (next : Verdict A) where
   orders-fail : (length orders ≡ 2 → ⊥) → refused 4 ≡ sideChecks filters orders indices next

@@ -1,4 +1,4 @@
--- `tns_tables::refusal::lowest_over` meets its contract. The invariant: the search from here on answers what the search of the whole list does.
+-- `tns_refusals::lowest_over` meets its contract. The invariant: the search from here on answers what the search of the whole list does.
 -- Assumes nothing.
 use mathlib.Core.Path.{_≡_, refl, sym, _∙_}
 use mathlib.Core.List.{List}
@@ -8,10 +8,10 @@ use native.Mathlib.Omega.{arith}
 use borrow.Author.Tests.{lt-ltb, le-ltb}
 use lib.ListN.{length, drop, getD, drop-of-length-le}
 use lib.Seq.{drop-cons}
-use Rattle.tns_tables.specs.Refusals.{lowestOver}
-use Rattle.tns_tables.specs.declared.refusal.Over.the-variants.{Nowhere, At}
-use Rattle.tns_tables.proofs.refusal.lowest_over.Statement.{statement}
-use Rattle.tns_tables.proofs.refusal.lowest_over.Tie as tie
+use Rattle.tns_refusals.specs.Refusals.{lowestOver}
+use Rattle.tns_refusals.specs.declared.Over.the-variants.{Nowhere, At}
+use Rattle.tns_refusals.proofs.lowest_over.Statement.{statement}
+use Rattle.tns_refusals.proofs.lowest_over.Tie as tie
 
 here : (limit : ℕ) (xs : List ℕ) (i : ℕ) → i < length xs → limit < getD xs i 0 → lowestOver limit i (drop i xs) ≡ At i (getD xs i 0)
 unfolding lowestOver

@@ -6,12 +6,12 @@ use mathlib.Core.List.{List, [], _∷_}
 use Prim.Native.Nat.{ℕ, suc, _≤_}
 use lib.Dec.{ltb, eqb}
 use lib.ListN.{length}
-use Rattle.tns_tables.specs.declared.refusal.Refusal.{Refusal}
-use Rattle.tns_tables.specs.declared.refusal.Refusal.the-variants.{Duration, Bandwidth, SpectrumLength, ListLength, FilterCount, Order, Index, Weighting}
-use Rattle.tns_tables.specs.declared.refusal.Over.{Over}
-use Rattle.tns_tables.specs.declared.refusal.Over.the-variants.{Nowhere, At}
-use Rattle.tns_tables.specs.declared.refusal.SideAnswer.{SideAnswer}
-use Rattle.tns_tables.specs.declared.refusal.SideAnswer.the-variants.{Sound, Refused}
+use Rattle.tns_refusals.specs.declared.Refusal.{Refusal}
+use Rattle.tns_refusals.specs.declared.Refusal.the-variants.{Duration, Bandwidth, SpectrumLength, ListLength, FilterCount, Order, Index, Weighting}
+use Rattle.tns_refusals.specs.declared.Over.{Over}
+use Rattle.tns_refusals.specs.declared.Over.the-variants.{Nowhere, At}
+use Rattle.tns_refusals.specs.declared.SideAnswer.{SideAnswer}
+use Rattle.tns_refusals.specs.declared.SideAnswer.the-variants.{Sound, Refused}
 
 -- A call is accepted with a result, refused by number alone, or refused by number (6, 7) with the lowest bad place and the number found there.
 pub data Verdict (A : Type 0) : Type 0 where

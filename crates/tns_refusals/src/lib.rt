@@ -1,7 +1,7 @@
 // The refusals of document 01, for every call of the library, and the one place that decides 4 to 7,
 // for decode and cost. Assumes nothing.
 ghost use mathlib.Core.Path.{_≡_};
-ghost use Rattle.tns_tables.specs.Refusals.{noFault, says, numberIn, placeIn, foundIn, lowestOver, sideChecks, sideSays};
+ghost use Rattle.tns_refusals.specs.Refusals.{noFault, says, numberIn, placeIn, foundIn, lowestOver, sideChecks, sideSays};
 
 // Why a call is refused, in the order of document 01's numbers 1 to 8. A refusal of an order or an
 // index holds the lowest bad place and the number found there.

@@ -8,11 +8,11 @@ use native.Mathlib.Omega.{arith}
 use lib.Dec.{ltb, eqb}
 use borrow.Author.Tests.{ltb-true, ltb-false, eqb-true}
 use lib.ListN.{length, getD}
-use Rattle.tns_tables.specs.Refusals.{Verdict, accepted, refused, refusedAt, noFault, says, check, checkAt, sideChecks, lowestOver, SoundSide}
-use Rattle.tns_tables.specs.declared.refusal.Refusal.{Refusal}
-use Rattle.tns_tables.specs.declared.refusal.Refusal.the-variants.{Duration, Bandwidth, SpectrumLength, ListLength, FilterCount, Order, Index, Weighting}
-use Rattle.tns_tables.specs.declared.refusal.Over.{Over}
-use Rattle.tns_tables.specs.declared.refusal.Over.the-variants.{Nowhere, At}
+use Rattle.tns_refusals.specs.Refusals.{Verdict, accepted, refused, refusedAt, noFault, says, check, checkAt, sideChecks, lowestOver, SoundSide}
+use Rattle.tns_refusals.specs.declared.Refusal.{Refusal}
+use Rattle.tns_refusals.specs.declared.Refusal.the-variants.{Duration, Bandwidth, SpectrumLength, ListLength, FilterCount, Order, Index, Weighting}
+use Rattle.tns_refusals.specs.declared.Over.{Over}
+use Rattle.tns_refusals.specs.declared.Over.the-variants.{Nowhere, At}
 
 -- the first refusal stands; an accepted call leaves the answer to what follows
 abbrev pub settle : {B : Type 0} → Verdict (Unit {0}) → Verdict B → Verdict B
