@@ -1,18 +1,26 @@
 -- Document 01, "Band rows" and "Analysis": what each duration keeps as its own, and the weighting of a frame.
 -- Assumes nothing.
 use mathlib.Core.Bool.{cond}
-use Prim.Native.Nat.{ℕ}
+use Prim.Native.Nat.{ℕ, zero, suc}
 use lib.Dec.{ltb}
 use Rattle.tns_rows.specs.declared.duration.Duration.{Duration}
 use Rattle.tns_rows.specs.declared.duration.Duration.the-variants.{Ten, SevenPointFive}
 
+-- each duration keeps its own first line, longest spectrum and weighting limit
 pub record Kept : Type 0 where
+  pub firstLine : ℕ
+  pub longest : ℕ
   pub weightingLimit : ℕ
 
--- 480 and 360
+-- 12, 400, 480 and 9, 300, 360
 abbrev pub kept : Duration → Kept
-kept Ten = record { weightingLimit = 480 }
-kept SevenPointFive = record { weightingLimit = 360 }
+kept Ten = record { firstLine = 12; longest = 400; weightingLimit = 480 }
+kept SevenPointFive = record { firstLine = 9; longest = 300; weightingLimit = 360 }
+
+-- The duration of a code: 0 is 10 ms and 1 is 7.5 ms. No other code passes check 1.
+abbrev pub durationOf : ℕ → Duration
+durationOf zero = Ten
+durationOf (suc code) = SevenPointFive
 
 -- weighting is 1 if the bit number is below the limit, else 0
 unfoldable pub weightingOf : Kept → ℕ → ℕ

@@ -1,11 +1,17 @@
 // The two frame durations. Each keeps its own numbers as associated constants of its type. Assumes
 // nothing.
 ghost use mathlib.Core.Path.{_≡_};
-ghost use Rattle.tns_rows.specs.Durations.{kept, weightingOf};
+ghost use Rattle.tns_rows.specs.Durations.{kept, durationOf, weightingOf};
 
 pub struct TenMs;
 
 impl TenMs {
+    // The first line that a filter may change.
+    pub const FIRST_LINE: usize = 12;
+
+    // The longest spectrum.
+    pub const LONGEST: usize = 400;
+
     // From this number of bits on, reflection coefficients are not weighted.
     pub const WEIGHTING_LIMIT: u64 = 480;
 }
@@ -13,6 +19,12 @@ impl TenMs {
 pub struct SevenPointFiveMs;
 
 impl SevenPointFiveMs {
+    // The first line that a filter may change.
+    pub const FIRST_LINE: usize = 9;
+
+    // The longest spectrum.
+    pub const LONGEST: usize = 300;
+
     // From this number of bits on, reflection coefficients are not weighted.
     pub const WEIGHTING_LIMIT: u64 = 360;
 }
@@ -20,6 +32,27 @@ impl SevenPointFiveMs {
 pub enum Duration {
     Ten,
     SevenPointFive,
+}
+
+// The duration of a code: 0 is 10 ms, and any other 7.5 ms. `check_frame` refuses codes over 1.
+pub fn duration_of(code: u8) -> Duration
+    ensures { λ r. ⌜ r ≡ durationOf code ⌝ }
+{
+    if code == 0 {
+        Duration::Ten
+    } else {
+        Duration::SevenPointFive
+    }
+}
+
+// The longest spectrum of a duration.
+pub fn longest(duration: Duration) -> usize
+    ensures { λ r. ⌜ r ≡ kept duration .longest ⌝ }
+{
+    match duration {
+        Duration::Ten => TenMs::LONGEST,
+        Duration::SevenPointFive => SevenPointFiveMs::LONGEST,
+    }
 }
 
 fn weighting_limit(duration: Duration) -> u64

@@ -1,0 +1,22 @@
+-- `tns_rows::duration::duration_of` meets its contract.
+-- Assumes nothing.
+use mathlib.Core.Path.{_≡_, refl, sym, ap}
+use Prim.Native.Nat.{ℕ, zero, suc}
+use borrow.Author.Needs.{needs}
+use Rattle.tns_rows.specs.Durations.{durationOf}
+use Rattle.tns_rows.specs.declared.duration.Duration.the-variants.{SevenPointFive}
+use Rattle.tns_rows.proofs.duration.duration_of.Statement.{statement}
+use Rattle.tns_rows.proofs.duration.duration_of.Tie as tie
+
+not-zero : (code : ℕ) → (code ≡ 0 → ⊥) → SevenPointFive ≡ durationOf code
+not-zero zero h = absurd (h refl)
+not-zero (suc code) h = refl
+
+returns : tie.Need-returns
+returns c = search needs
+
+returns-2 : tie.Need-returns-2
+returns-2 c = not-zero (c .before .args .code) (c .if1 .left)
+
+pub duration-of-spec : {M : Type 1} → statement M
+duration-of-spec = tie.close (tie.spec returns returns-2)

@@ -1,0 +1,64 @@
+-- `tns_rows::row::asked_band` meets its contract: the row's band of a sound frame, and none of a refused one.
+-- Assumes nothing.
+use mathlib.Core.Path.{_≡_, refl, sym, _∙_, ap}
+use Prim.Native.Nat.{ℕ}
+use borrow.Author.Needs.{needs}
+use Rattle.tns_refusals.specs.Refusals.{Verdict, accepted, says}
+use Rattle.tns_refusals.specs.declared.Refusal.{Refusal}
+use Rattle.tns_refusals.specs.declared.Refusal.the-variants.{Duration, Bandwidth, SpectrumLength, ListLength, FilterCount, Order, Index, Weighting}
+use Rattle.tns_rows.specs.Bands.{frameOf, frameSays, askedIn, askedBand, bandOf, noBand}
+use Rattle.tns_rows.specs.declared.row.Band.{Band}
+use Rattle.tns_rows.specs.declared.row.Row.{Row}
+use Rattle.tns_rows.proofs.row.asked_band.Statement.{statement}
+use Rattle.tns_rows.proofs.row.asked_band.Tie as tie
+
+-- a refused frame has no band, whatever refuses it
+none-of-refused : (why : Refusal) (filter : ℕ) → noBand ≡ askedIn (says why) filter
+none-of-refused Duration filter = refl
+none-of-refused Bandwidth filter = refl
+none-of-refused SpectrumLength filter = refl
+none-of-refused ListLength filter = refl
+none-of-refused FilterCount filter = refl
+none-of-refused (Order place found) filter = refl
+none-of-refused (Index place found) filter = refl
+none-of-refused Weighting filter = refl
+
+check-frame-requires : tie.Need-check-frame-requires
+check-frame-requires c κs = search needs
+
+enum-known-frame : tie.Need-enum-known-frame
+enum-known-frame c = search needs
+
+band-of-requires : tie.Need-band-of-requires
+band-of-requires c κs = search needs
+
+enum-told : tie.Need-enum-told
+enum-told c = search needs
+
+none-requires : tie.Need-none-requires
+none-requires c κs = search needs
+
+returns : tie.Need-returns
+returns c =
+    let found = c .before .before in
+    let g = found .before .before .before .args in
+    c .band-of .ensures ∙ ap (λ (v : Verdict Row). askedIn v (g .filter)) (sym (ap frameSays (found .frame .given .1)) ∙ found .before .before .check-frame .ensures)
+
+returns-2 : tie.Need-returns-2
+returns-2 c =
+    let told = c .before in
+    let g = told .before .before .before .args in
+    c .none .ensures ∙ none-of-refused (told .enum-told .given .0 .0) (g .filter)
+    ∙ ap (λ (v : Verdict Row). askedIn v (g .filter)) (sym (ap frameSays (told .enum-told .given .1)) ∙ told .before .before .check-frame .ensures)
+
+pub asked-band-spec : {M : Type 1} → statement M
+asked-band-spec =
+    tie.close
+    (tie.spec
+    check-frame-requires
+    enum-known-frame
+    band-of-requires
+    enum-told
+    none-requires
+    returns
+    returns-2)
