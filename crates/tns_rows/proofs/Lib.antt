@@ -1,3 +1,4 @@
 -- The laws that belong to no one function.
 pub mod Frames
+pub mod InPlace
 pub mod Determined

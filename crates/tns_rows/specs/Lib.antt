@@ -2,4 +2,5 @@
 pub mod Durations
 pub mod Bands
 pub mod BandRules
+pub mod Lines
 pub mod Marked

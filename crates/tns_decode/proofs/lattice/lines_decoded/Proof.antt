@@ -1,0 +1,114 @@
+-- `tns_decode::lattice::lines_decoded` meets its contract. The invariant: the lines done, and what the definition makes of the rest from here,
+-- are what it makes of all; the same of the states.
+-- Assumes nothing.
+use mathlib.Core.Path.{_≡_, refl, sym, _∙_, ap}
+use mathlib.Core.List.{List, _++_}
+use Prim.Native.Nat.{ℕ, _+_, _-_, _<_, _≤_}
+use native.Mathlib.Omega.{arith}
+use borrow.Author.Needs.{needs}
+use lib.Ieee.{Float, nan}
+use lib.ListN.{length, take, drop, getD, set, length-set}
+use Rattle.tns_rows.proofs.InPlace.{one-more, state-more, none-left, state-left}
+use Rattle.tns_decode.specs.Lattice.{lineDecoded, linesDecoded, statesAfter}
+use Rattle.tns_decode.specs.declared.lattice.Passed.{Passed}
+use Rattle.tns_decode.proofs.lattice.lines_decoded.Statement.{statement}
+use Rattle.tns_decode.proofs.lattice.lines_decoded.Tie as tie
+
+module _ (q : List Float) (order : ℕ) where
+  becomes : List Float → Float → Float
+  becomes s x = lineDecoded q order s x .t
+
+  after : List Float → Float → List Float
+  after s x = lineDecoded q order s x .states
+
+  line-more : (s xs : List Float) (i : ℕ) (p : Passed) → i < length xs → p ≡ lineDecoded q order s (getD xs i nan)
+      → take i xs ++ linesDecoded q order s (drop i xs) ≡ take (i + 1) (set xs i (p .t)) ++ linesDecoded q order (p .states) (drop (i + 1) (set xs i (p .t)))
+  unfolding linesDecoded becomes after
+  line-more s xs i p h e = rw e (one-more becomes after nan s xs i h)
+
+  states-more : (s xs : List Float) (i : ℕ) (p : Passed) → i < length xs → p ≡ lineDecoded q order s (getD xs i nan)
+      → statesAfter q order s (drop i xs) ≡ statesAfter q order (p .states) (drop (i + 1) (set xs i (p .t)))
+  unfolding statesAfter becomes after
+  states-more s xs i p h e = rw e (state-more becomes after nan s xs i (becomes s (getD xs i nan)) h)
+
+  lines-left : (s xs : List Float) (i : ℕ) → length xs ≤ i → take i xs ++ linesDecoded q order s (drop i xs) ≡ xs
+  unfolding linesDecoded becomes after
+  lines-left s xs i h = none-left becomes after nan s xs i h
+
+  states-left : (s xs : List Float) (i : ℕ) → length xs ≤ i → statesAfter q order s (drop i xs) ≡ s
+  unfolding statesAfter becomes after
+  states-left s xs i h = state-left becomes after nan s xs i h
+
+abbrev Inv-loop : tie.InvT-loop
+Inv-loop q order lines₀ state₀ i₀ lines state i =
+    (i ≤ length lines₀)
+    × (length lines ≡ length lines₀)
+    × (linesDecoded q order state₀ lines₀ ≡ take i lines ++ linesDecoded q order state (drop i lines))
+    × (statesAfter q order state₀ lines₀ ≡ statesAfter q order state (drop i lines))
+
+abbrev μ-loop : tie.MeasureT-loop
+μ-loop q order lines₀ state₀ i₀ lines state i = length lines₀ - i
+
+loop-holds : tie.Need-loop-holds Inv-loop μ-loop
+loop-holds c = (omega arith, refl, refl, refl)
+
+mul-line-decoded : tie.Need-mul-line-decoded Inv-loop μ-loop
+mul-line-decoded c = omega arith
+
+slice-read-line-decoded : tie.Need-slice-read-line-decoded Inv-loop μ-loop
+slice-read-line-decoded c = omega arith
+
+line-decoded-requires : tie.Need-line-decoded-requires Inv-loop μ-loop
+line-decoded-requires c κs = c .before .before .before .before .pre
+
+mul-lines : tie.Need-mul-lines Inv-loop μ-loop
+mul-lines c = omega arith
+
+slice-write-lines : tie.Need-slice-write-lines Inv-loop μ-loop
+slice-write-lines c = search needs
+
+add-i : tie.Need-add-i Inv-loop μ-loop
+add-i c = omega arith
+
+loop-less : tie.Need-loop-less Inv-loop μ-loop
+loop-less c = omega arith
+
+loop-again : tie.Need-loop-again Inv-loop μ-loop
+loop-again c =
+    let l = c .before .before .before .before .loop in
+    let g = c .before .before .before .before .before .before .args in
+    let called = c .before .line-decoded in (
+      omega arith,
+      simp length-set (l .inv .1),
+      l .inv .2 ∙ line-more (g .q) (g .order) (l .state) (l .lines) (l .i) (called .result) (omega arith) (called .ensures),
+      l .inv .3 ∙ states-more (g .q) (g .order) (l .state) (l .lines) (l .i) (called .result) (omega arith) (called .ensures),
+    )
+
+same-length : tie.Need-same-length Inv-loop μ-loop
+same-length c = search needs
+
+returns : tie.Need-returns Inv-loop μ-loop
+returns c =
+    let l = c .before .loop in
+    let g = c .before .before .before .args in (
+      sym (l .inv .3 ∙ states-left (g .q) (g .order) (l .state) (l .lines) (l .i) (omega arith)),
+      sym (l .inv .2 ∙ lines-left (g .q) (g .order) (l .state) (l .lines) (l .i) (omega arith)),
+    )
+
+pub lines-decoded-spec : {M : Type 1} → statement M
+lines-decoded-spec =
+    tie.close
+    (tie.spec
+    Inv-loop
+    μ-loop
+    loop-holds
+    mul-line-decoded
+    slice-read-line-decoded
+    line-decoded-requires
+    mul-lines
+    slice-write-lines
+    add-i
+    loop-less
+    loop-again
+    same-length
+    returns)
