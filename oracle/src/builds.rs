@@ -3,6 +3,10 @@
 
 use std::hint::black_box;
 
+/// D's public function: duration code, bandwidth, filters, orders, indices,
+/// lines. Assumes a bandwidth from 0 to 4; any duration code but 0 is 7.5 ms.
+pub type Decode = fn(u8, u8, usize, &[usize], &[usize], &mut [f32]);
+
 pub struct Build {
     pub name: &'static str,
     /// E's `apply_quantization`: filters, coefficients, indices, orders.
@@ -15,10 +19,13 @@ pub struct Build {
     pub decoder_coefficient: fn(usize) -> f32,
     pub encoder_step: f32,
     pub decoder_step: f32,
+    pub decode: Decode,
 }
 
 macro_rules! build {
     ($krate:ident, $name:literal) => {{
+        use $krate::common::config::FrameDuration::{SevenPointFiveMs, TenMs};
+        use $krate::decoder::side_info::Bandwidth;
         use $krate::decoder::temporal_noise_shaping as decoder;
         use $krate::encoder::temporal_noise_shaping as encoder;
         Build {
@@ -30,6 +37,23 @@ macro_rules! build {
             decoder_coefficient: decoder::oracle_door::coefficient,
             encoder_step: encoder::oracle_step::QUANTIZER_STEPSIZE,
             decoder_step: decoder::oracle_step::QUANTIZER_STEPSIZE,
+            decode: |duration, bandwidth, filters, orders, indices, lines| {
+                let duration = if duration == 0 {
+                    TenMs
+                } else {
+                    SevenPointFiveMs
+                };
+                let bandwidth = match bandwidth {
+                    0 => Bandwidth::NarrowBand,
+                    1 => Bandwidth::WideBand,
+                    2 => Bandwidth::SemiSuperWideBand,
+                    3 => Bandwidth::SuperWideBand,
+                    _ => Bandwidth::FullBand,
+                };
+                decoder::apply_temporal_noise_shaping(
+                    duration, bandwidth, filters, orders, indices, lines,
+                )
+            },
         }
     }};
 }

@@ -1,9 +1,11 @@
-//! The word `lists`: writes the two fixed lists of the std build's answers,
-//! crates/replay_cost/stdin and crates/replay_index/stdin.
-//! Assumes that both folders exist. The same build writes the same bytes.
+//! The word `lists`: writes the fixed lists of the std build's answers. Here
+//! crates/replay_cost/stdin and crates/replay_index/stdin; the longer lists have
+//! files of their own.
+//! Assumes that the folders exist. The same build writes the same bytes.
 
 use crate::builds::{both, Build};
 use crate::cost::Frame;
+use crate::list_decode;
 use crate::random::{Random, SEED};
 use std::path::Path;
 
@@ -197,7 +199,13 @@ fn index_list(builds: &[Build; 2], root: &Path) -> bool {
     write(&root.join("crates/replay_index/stdin"), &bytes)
 }
 
-fn write(path: &Path, bytes: &[u8]) -> bool {
+/// The bit patterns of lines, with one pattern for every NaN.
+pub fn patterns(lines: &[f32]) -> Vec<u32> {
+    let pattern = |x: &f32| if x.is_nan() { 0x7FC0_0000 } else { x.to_bits() };
+    lines.iter().map(pattern).collect()
+}
+
+pub fn write(path: &Path, bytes: &[u8]) -> bool {
     let written = std::fs::write(path, bytes);
     if let Err(error) = &written {
         println!("lists: cannot write {}: {error}", path.display());
@@ -208,6 +216,8 @@ fn write(path: &Path, bytes: &[u8]) -> bool {
 pub fn run(root: &Path) -> bool {
     let builds = both();
     println!("lists: random numbers: xorshift 13 7 17, seed {SEED:016X}");
-    let costs = cost_list(&builds, root);
-    index_list(&builds, root) && costs
+    let mut good = cost_list(&builds, root);
+    good &= index_list(&builds, root);
+    good &= list_decode::run(&builds, root);
+    good
 }

@@ -1,14 +1,33 @@
 //! The oracle's harness: one word, one job. It prints plain labelled lines.
 //! Assumes that the script `run` called it: oracle WORD ROOT, where ROOT is the
-//! repository's folder.
+//! repository's folder. The words that call the port are features; a build
+//! without all of them leaves shared parts unused.
+#![cfg_attr(
+    not(all(feature = "decode", feature = "encode", feature = "lc3")),
+    allow(dead_code)
+)]
 
+mod answer;
 mod builds;
 mod compare;
 mod cost;
+#[cfg(feature = "decode")]
+mod decode;
+mod decode_call;
+#[cfg(feature = "decode")]
+mod decode_refusals;
+#[cfg(feature = "decode")]
+mod decode_strange;
+mod list_decode;
 mod lists;
+#[cfg(any(feature = "decode", feature = "encode", feature = "lc3"))]
+mod port;
 mod powi;
 mod random;
+mod rows;
 mod rule;
+mod same;
+mod spectra;
 mod strange;
 mod tables;
 
@@ -27,6 +46,8 @@ fn main() -> ExitCode {
         "powi" => powi::run(),
         "cost" => cost::run(&root),
         "lists" => lists::run(&root),
+        #[cfg(feature = "decode")]
+        "decode" => decode::run(),
         _ => {
             eprintln!("oracle: no such word");
             return ExitCode::from(2);

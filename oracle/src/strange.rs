@@ -10,7 +10,7 @@ use std::hint::black_box;
 use std::panic::{catch_unwind, set_hook, take_hook, AssertUnwindSafe};
 
 /// `act` gives a sentence; a panic gives "panics".
-fn line(who: &str, input: &str, act: impl FnOnce() -> String) {
+pub fn line(who: &str, input: &str, act: impl FnOnce() -> String) {
     let what = catch_unwind(AssertUnwindSafe(act)).unwrap_or_else(|_| "panics".to_string());
     println!("strange: {who}: {input}: {what}");
 }

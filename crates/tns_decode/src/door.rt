@@ -67,6 +67,66 @@ fn band_decoded(q: [f32; 8], order: u8, states: [f32; 8], lines: &mut [f32]) -> 
     }
 }
 
-pub fn decode() -> DecodeAnswer {
-    DecodeAnswer::Decoded
+// One filter, in its band of the whole spectrum. It answers the states after it.
+fn filter_decoded(
+    band: Band,
+    order: u8,
+    indices: &[u8],
+    states: [f32; 8],
+    lines: &mut [f32],
+) -> [f32; 8]
+    requires { ⌜ Fits band (length (now lines)) ⌝ }
+    requires { ⌜ (order ≤ 8) × (length (now indices) ≡ 8) ⌝ }
+    ensures { λ r. ⌜ r ≡ statesAfter (map decoderCoefficient (now (indices .entry))) order states (inside band (now (lines .entry))) ⌝ }
+    ensures { λ _. ⌜ now (lines .exit) ≡ within band (linesDecoded (map decoderCoefficient (now (indices .entry))) order states) (now (lines .entry)) ⌝ }
+{
+    let q = coefficients(indices);
+    let start = band.start;
+    let stop = band.stop;
+    band_decoded(q, order, states, &mut lines[start..stop])
+}
+
+// The counted filters, each in its band, the states carried from the first to the second.
+fn row_decoded(row: Row, filters: u8, orders: &[u8], indices: &[u8], lines: &mut [f32])
+    requires { ⌜ SoundRow row (length (now lines)) ⌝ }
+    requires { ⌜ SoundSide filters (now orders) (now indices) ⌝ }
+    ensures { λ _. ⌜ now (lines .exit) ≡ rowDecoded row filters (now (orders .entry)) (now (indices .entry)) (now (lines .entry)) ⌝ }
+{
+    if filters == 0 {
+        return;
+    }
+    let states = filter_decoded(row.first, orders[0], &indices[0..8], [0.0; 8], lines);
+    if filters == 1 {
+        return;
+    }
+    filter_decoded(row.second, orders[1], &indices[8..16], states, lines);
+}
+
+// Decodes a spectrum in place. Any numbers and lists may be given: a frame or side data that document
+// 01 refuses is refused by number and leaves every line as it was.
+pub fn decode(
+    duration: u8,
+    bandwidth: u8,
+    filters: u8,
+    orders: &[u8],
+    indices: &[u8],
+    lines: &mut [f32],
+) -> DecodeAnswer
+    ensures { λ r. ⌜ decodeSays r ≡ decodeChecks duration bandwidth filters (now (orders .entry)) (now (indices .entry)) (length (now (lines .entry))) ⌝ }
+    ensures { λ _. ⌜ now (lines .exit) ≡ spectrumDecoded duration bandwidth filters (now (orders .entry)) (now (indices .entry)) (now (lines .entry)) ⌝ }
+{
+    let frame = check_frame(duration, bandwidth, lines.len());
+    match frame {
+        FrameAnswer::Refused(why) => DecodeAnswer::Refused(why),
+        FrameAnswer::Sound(row) => {
+            let side = check_side(filters, orders, indices);
+            match side {
+                SideAnswer::Refused(why) => DecodeAnswer::Refused(why),
+                SideAnswer::Sound => {
+                    row_decoded(row, filters, orders, indices, lines);
+                    DecodeAnswer::Decoded
+                }
+            }
+        }
+    }
 }

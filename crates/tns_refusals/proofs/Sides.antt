@@ -8,7 +8,7 @@ use native.Mathlib.Omega.{arith}
 use lib.Dec.{ltb, eqb}
 use borrow.Author.Tests.{ltb-true, ltb-false, eqb-true}
 use lib.ListN.{length, getD}
-use Rattle.tns_refusals.specs.Refusals.{Verdict, accepted, refused, refusedAt, noFault, says, check, checkAt, sideChecks, lowestOver, SoundSide}
+use Rattle.tns_refusals.specs.Refusals.{Verdict, accepted, refused, refusedAt, noFault, numberIn, says, check, checkAt, sideChecks, lowestOver, SoundSide}
 use Rattle.tns_refusals.specs.declared.Refusal.{Refusal}
 use Rattle.tns_refusals.specs.declared.Refusal.the-variants.{Duration, Bandwidth, SpectrumLength, ListLength, FilterCount, Order, Index, Weighting}
 use Rattle.tns_refusals.specs.declared.Over.{Over}
@@ -30,6 +30,56 @@ settle-says FilterCount next = refl
 settle-says (Order place found) next = refl
 settle-says (Index place found) next = refl
 settle-says Weighting next = refl
+
+-- what holds of every verdict that is a refusal holds of what a refusal says
+pub by-refusal : {A : Type 0} (P : Verdict A → Type 0) → ((n : ℕ) → P (refused n)) → ((n p f : ℕ) → P (refusedAt n p f)) → (why : Refusal) → P (says why)
+by-refusal P r at Duration = r 1
+by-refusal P r at Bandwidth = r 2
+by-refusal P r at SpectrumLength = r 3
+by-refusal P r at ListLength = r 4
+by-refusal P r at FilterCount = r 5
+by-refusal P r at (Order place found) = at 6 place found
+by-refusal P r at (Index place found) = at 7 place found
+by-refusal P r at Weighting = r 8
+
+-- a refusal has a number
+says-number : (A : Type 0) (why : Refusal) → 0 < numberIn (says {A = A} why)
+says-number A Duration = omega arith
+says-number A Bandwidth = omega arith
+says-number A SpectrumLength = omega arith
+says-number A ListLength = omega arith
+says-number A FilterCount = omega arith
+says-number A (Order place found) = omega arith
+says-number A (Index place found) = omega arith
+says-number A Weighting = omega arith
+
+-- a refusal of one call as a refusal of another
+abbrev refusalIn : {A B : Type 0} → Verdict A → Verdict B
+refusalIn (accepted a) = refused 0
+refusalIn (refused number) = refused number
+refusalIn (refusedAt number place found) = refusedAt number place found
+
+refusal-in : (A B : Type 0) (why : Refusal) → refusalIn {A = A} {B = B} (says why) ≡ says why
+refusal-in A B Duration = refl
+refusal-in A B Bandwidth = refl
+refusal-in A B SpectrumLength = refl
+refusal-in A B ListLength = refl
+refusal-in A B FilterCount = refl
+refusal-in A B (Order place found) = refl
+refusal-in A B (Index place found) = refl
+refusal-in A B Weighting = refl
+
+-- where the checks and a result after them give a refusal, the checks give it, whatever follows
+pub refused-by-checks : {A B : Type 0} (v : Verdict (Unit {0})) (a : A) (why : Refusal) → says why ≡ settle v (accepted a) → (next : Verdict B) → settle v next ≡ says why
+refused-by-checks {A} (accepted u) a why e next = let z : numberIn (says {A = A} why) ≡ 0 = ap numberIn e in absurd (omega (arith, says-number A why))
+refused-by-checks {A} {B} (refused n) a why e next = sym (ap (refusalIn {A = A} {B = B}) e) ∙ refusal-in A B why
+refused-by-checks {A} {B} (refusedAt n p f) a why e next = sym (ap (refusalIn {A = A} {B = B}) e) ∙ refusal-in A B why
+
+-- where they give a result, it is that result, and the checks leave every answer to what follows
+pub passed-by-checks : {A B : Type 0} (v : Verdict (Unit {0})) (a r : A) → accepted r ≡ settle v (accepted a) → (r ≡ a) × ((next : Verdict B) → settle v next ≡ next)
+passed-by-checks (accepted u) a r e = (cc, λ next. refl)
+passed-by-checks (refused n) a r e = let z : _≡_ {A = ℕ} 0 1 = cc in absurd (omega arith)
+passed-by-checks (refusedAt n p f) a r e = let z : _≡_ {A = ℕ} 0 1 = cc in absurd (omega arith)
 
 -- the shared checks answer the same whatever follows them
 pub sides-settle : {A : Type 0} (filters : ℕ) (orders indices : List ℕ) (next : Verdict A)

@@ -2,16 +2,18 @@
 -- both durations, from one computed test. Assumes nothing.
 use mathlib.Core.Path.{_≡_, refl, sym, _∙_, ap, subst}
 use mathlib.Core.Bool.{Bool, true, false, _&&_, _||_, cond}
-use mathlib.Core.List.{List, [], _∷_}
-use Prim.Native.Nat.{ℕ, zero, suc, _≤_, _<_}
+use mathlib.Core.List.{List, [], _∷_, _++_}
+use Prim.Native.Nat.{ℕ, zero, suc, _+_, _-_, _≤_, _<_}
 use native.Mathlib.Omega.{arith}
 use lib.Dec.{ltb, leb, eqb}
 use borrow.Author.Tests.{ltb-false, leb-true, eqb-true}
-use lib.ListN.{getD}
+use lib.ListN.{getD, take, drop}
+use lib.Seq.{drop-drop}
 use Rattle.tns_tables.specs.Rules.{every}
 use Rattle.tns_tables.proofs.Costs.{every-at}
 use Rattle.tns_tables.proofs.Outside.{and-left, and-right}
-use Rattle.tns_refusals.specs.Refusals.{Verdict, accepted, refused, refusedAt, check}
+use Rattle.tns_refusals.specs.Refusals.{Verdict, accepted, refused, refusedAt, noFault, check}
+use Rattle.tns_refusals.proofs.Sides.{settle}
 use Rattle.tns_rows.specs.Durations.{Kept, kept, durationOf}
 use Rattle.tns_rows.specs.Bands.{tenMsRows, sevenPointFiveMsRows, rowsOf, bandFrom, bandsOf, rowOf, bandOf, noBand, lastStop, frameChecks, frameOf, askedIn, askedBand}
 use Rattle.tns_rows.specs.declared.duration.Duration.{Duration}
@@ -47,6 +49,19 @@ row-ordered d bandwidth =
       leb-true _ _ (and-left (leb (bandFrom 0 row .start) (bandFrom 0 row .stop)) (leb (bandFrom 4 row .start) (bandFrom 4 row .stop)) e),
       leb-true _ _ (and-right (leb (bandFrom 0 row .start) (bandFrom 0 row .stop)) (leb (bandFrom 4 row .start) (bandFrom 4 row .stop)) e),
     )
+
+-- checks 1 to 3 answer the same whatever follows them
+pub frames-settle : {A : Type 0} (duration bandwidth lines : ℕ) (next : Verdict A)
+    → frameChecks duration bandwidth lines next ≡ settle (frameChecks duration bandwidth lines noFault) next
+unfolding frameChecks
+frames-settle {A} duration bandwidth lines next =
+    cases (ltb 1 duration) (ltb 4 bandwidth) (ltb lines (lastStop (rowOf (durationOf duration) bandwidth)) || ltb (kept (durationOf duration) .longest) lines)
+  where
+    cases : (a b c : Bool) → check 1 a (check 2 b (check 3 c next)) ≡ settle (check 1 a (check 2 b (check 3 c noFault))) next
+    cases true b c = refl
+    cases false true c = refl
+    cases false false true = refl
+    cases false false false = refl
 
 -- what checks 1 to 3 leave of a frame that they accept
 pub record SoundFrame (duration bandwidth lines : ℕ) (row : Row) : Type 0 where
@@ -104,3 +119,10 @@ asked-fits duration bandwidth filter lines = cases (frameOf duration bandwidth l
     cases (accepted row) e (suc (suc filter)) = none-fits lines
     cases (refused number) e filter = none-fits lines
     cases (refusedAt number place found) e filter = none-fits lines
+
+-- a spectrum whose band comes back changed, as the logic has it and as the definition has it
+pub band-back : {A : Type 0} (band : Band) (xs ys : List A) → band .start ≤ band .stop
+    → take (band .start) xs ++ (ys ++ drop (band .stop - band .start) (drop (band .start) xs)) ≡ take (band .start) xs ++ (ys ++ drop (band .stop) xs)
+band-back {A} band xs ys h =
+    let e : band .start + (band .stop - band .start) ≡ band .stop = omega arith in
+    ap (λ (l : List A). take (band .start) xs ++ (ys ++ l)) (drop-drop (band .stop - band .start) (band .start) xs ∙ ap (λ (n : ℕ). drop n xs) e)

@@ -136,8 +136,8 @@ returns-9 c =
     let o = g .order in
     let not-it = at .match .rest in
     let least : 8 ≤ o =
-        above 7 o (above 6 o (above 5 o (above 4 o (above 3 o (above 2 o (above 1 o (above 0 o zero-le
-        (not-it .0 .0 .0 .0 .0 .0 .0 .1)) (not-it .0 .0 .0 .0 .0 .0 .1)) (not-it .0 .0 .0 .0 .0 .1)) (not-it .0 .0 .0 .0 .1)) (not-it .0 .0 .0 .1)) (not-it .0 .0 .1)) (not-it .0 .1)) (not-it .1)
+    above 7 o (above 6 o (above 5 o (above 4 o (above 3 o (above 2 o (above 1 o (above 0 o zero-le
+    (not-it .0 .0 .0 .0 .0 .0 .0 .1)) (not-it .0 .0 .0 .0 .0 .0 .1)) (not-it .0 .0 .0 .0 .0 .1)) (not-it .0 .0 .0 .0 .1)) (not-it .0 .0 .0 .1)) (not-it .0 .0 .1)) (not-it .0 .1)) (not-it .1)
     in
     let eight : o ≡ 8 = exactly o least (at .before .before .pre) in
     arm (g .order) 8 eight (g .q) (g .states) (g .lines .now) _ _ (c .before .before .lines-decoded8 .ensures)

@@ -53,10 +53,10 @@ loop-less c = omega arith
 loop-again : tie.Need-loop-again Inv-loop μ-loop
 loop-again c =
     let l = c .before .before .before .loop in
-    let is = c .before .before .before .before .before .args .indices .now in
-    ( omega arith
-    , simp length-set (l .inv .1)
-    , one-more (l .q) is (l .k) (c .decoder-coefficient .result) (omega arith) (omega (arith, c .before .before .before .before .before .pre)) (c .decoder-coefficient .ensures) (l .inv .2)
+    let is = c .before .before .before .before .before .args .indices .now in (
+      omega arith,
+      simp length-set (l .inv .1),
+      one-more (l .q) is (l .k) (c .decoder-coefficient .result) (omega arith) (omega (arith, c .before .before .before .before .before .pre)) (c .decoder-coefficient .ensures) (l .inv .2),
     )
 
 returns : tie.Need-returns Inv-loop μ-loop

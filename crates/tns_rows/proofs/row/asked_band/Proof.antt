@@ -5,7 +5,7 @@ use Prim.Native.Nat.{ℕ}
 use borrow.Author.Needs.{needs}
 use Rattle.tns_refusals.specs.Refusals.{Verdict, accepted, says}
 use Rattle.tns_refusals.specs.declared.Refusal.{Refusal}
-use Rattle.tns_refusals.specs.declared.Refusal.the-variants.{Duration, Bandwidth, SpectrumLength, ListLength, FilterCount, Order, Index, Weighting}
+use Rattle.tns_refusals.proofs.Sides.{by-refusal}
 use Rattle.tns_rows.specs.Bands.{frameOf, frameSays, askedIn, askedBand, bandOf, noBand}
 use Rattle.tns_rows.specs.declared.row.Band.{Band}
 use Rattle.tns_rows.specs.declared.row.Row.{Row}
@@ -14,14 +14,7 @@ use Rattle.tns_rows.proofs.row.asked_band.Tie as tie
 
 -- a refused frame has no band, whatever refuses it
 none-of-refused : (why : Refusal) (filter : ℕ) → noBand ≡ askedIn (says why) filter
-none-of-refused Duration filter = refl
-none-of-refused Bandwidth filter = refl
-none-of-refused SpectrumLength filter = refl
-none-of-refused ListLength filter = refl
-none-of-refused FilterCount filter = refl
-none-of-refused (Order place found) filter = refl
-none-of-refused (Index place found) filter = refl
-none-of-refused Weighting filter = refl
+none-of-refused why filter = by-refusal (λ v. noBand ≡ askedIn v filter) (λ n. refl) (λ n p f. refl) why
 
 check-frame-requires : tie.Need-check-frame-requires
 check-frame-requires c κs = search needs

@@ -1,0 +1,58 @@
+-- Laws of the decoder's checks: what a refusal of the frame or of the side data makes of the call, and what is known once neither is refused.
+-- Assumes nothing.
+use mathlib.Core.Path.{_≡_, refl, sym, _∙_, ap}
+use mathlib.Core.List.{List}
+use Prim.Native.Nat.{ℕ}
+use lib.Ieee.{Float}
+use lib.ListN.{length}
+use Rattle.tns_refusals.specs.Refusals.{Verdict, accepted, refused, refusedAt, noFault, says, sideChecks}
+use Rattle.tns_refusals.specs.declared.Refusal.{Refusal}
+use Rattle.tns_refusals.proofs.Sides.{settle, by-refusal, refused-by-checks, passed-by-checks}
+use Rattle.tns_rows.specs.Durations.{durationOf}
+use Rattle.tns_rows.specs.Bands.{rowOf, frameChecks, frameOf}
+use Rattle.tns_rows.specs.declared.row.Row.{Row}
+use Rattle.tns_rows.proofs.Frames.{frames-settle}
+use Rattle.tns_decode.specs.Decoder.{decodeChecks, unlessRefused, spectrumDecoded, rowDecoded}
+
+-- a refused call leaves what was there
+refused-leaves : (why : Refusal) (after before : List Float) → before ≡ unlessRefused (says why) after before
+refused-leaves why after before = by-refusal (λ v. before ≡ unlessRefused v after before) (λ n. refl) (λ n p f. refl) why
+
+module _ (duration bandwidth filters : ℕ) (orders indices : List ℕ) where
+  module _ (lines : ℕ) where
+    frame : Verdict (Unit {0})
+    frame = frameChecks duration bandwidth lines noFault
+
+    own : Row
+    own = rowOf (durationOf duration) bandwidth
+
+    frame-is : frameOf duration bandwidth lines ≡ settle frame (accepted own)
+    unfolding frameOf frame own
+    frame-is = frames-settle duration bandwidth lines (accepted (rowOf (durationOf duration) bandwidth))
+
+    checks-are : decodeChecks duration bandwidth filters orders indices lines ≡ settle frame (sideChecks filters orders indices noFault)
+    unfolding decodeChecks frame
+    checks-are = frames-settle duration bandwidth lines (sideChecks filters orders indices noFault)
+
+    pub frame-refused : (why : Refusal) → says why ≡ frameOf duration bandwidth lines → says why ≡ decodeChecks duration bandwidth filters orders indices lines
+    frame-refused why e = sym (checks-are ∙ refused-by-checks frame own why (e ∙ frame-is) (sideChecks filters orders indices noFault))
+
+    -- past the frame's checks the row is the frame's, and the side data decide
+    pub frame-passed : (row : Row) → accepted row ≡ frameOf duration bandwidth lines
+        → (row ≡ rowOf (durationOf duration) bandwidth) × (decodeChecks duration bandwidth filters orders indices lines ≡ sideChecks filters orders indices noFault)
+    unfolding own
+    frame-passed row e =
+        let p = passed-by-checks frame own row (e ∙ frame-is) in
+        (p .0, checks-are ∙ p .1 (sideChecks filters orders indices noFault))
+
+  -- what a refused and an accepted call leave
+  module _ (lines : List Float) where
+    pub refused-spectrum : (why : Refusal) → says why ≡ decodeChecks duration bandwidth filters orders indices (length lines)
+        → lines ≡ spectrumDecoded duration bandwidth filters orders indices lines
+    unfolding spectrumDecoded
+    refused-spectrum why e = rw (sym e) (refused-leaves why _ lines)
+
+    pub accepted-spectrum : noFault ≡ decodeChecks duration bandwidth filters orders indices (length lines)
+        → rowDecoded (rowOf (durationOf duration) bandwidth) filters orders indices lines ≡ spectrumDecoded duration bandwidth filters orders indices lines
+    unfolding spectrumDecoded
+    accepted-spectrum e = rw (sym e)
