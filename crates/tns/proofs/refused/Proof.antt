@@ -1,0 +1,46 @@
+-- `tns::refused` meets its contract: the refusal's own numbers, and no bits.
+-- Assumes nothing.
+use mathlib.Core.Path.{_≡_, refl}
+use Prim.Native.Nat.{ℕ}
+use borrow.Author.Needs.{needs}
+use Rattle.tns_refusals.specs.Refusals.{numberIn, placeIn, foundIn, says}
+use Rattle.tns_refusals.specs.declared.Refusal.{Refusal}
+use Rattle.tns_refusals.proofs.Sides.{by-refusal}
+use Rattle.tns.specs.Answers.{told, noBits, bitsOf}
+use Rattle.tns.specs.declared.Answer.{Answer}
+use Rattle.tns.proofs.refused.Statement.{statement}
+use Rattle.tns.proofs.refused.Tie as tie
+
+no-bits : (why : Refusal) → 0 ≡ bitsOf noBits (says why)
+no-bits why = by-refusal (λ v. 0 ≡ bitsOf noBits v) (λ n. refl) (λ n p f. refl) why
+
+own-numbers : (why : Refusal) (n p f : ℕ) → n ≡ numberIn (says {A = Unit {0}} why) → p ≡ placeIn (says {A = Unit {0}} why) → f ≡ foundIn (says {A = Unit {0}} why)
+    → record { refusal = n; place = p; found = f; bits = 0 } ≡ told noBits (says why)
+own-numbers why n p f en ep ef = cc (no-bits why)
+
+number-requires : tie.Need-number-requires
+number-requires c κs = search needs
+
+cast-t3 : tie.Need-cast-t3
+cast-t3 c = search needs
+
+place-requires : tie.Need-place-requires
+place-requires c κs = search needs
+
+cast-t5 : tie.Need-cast-t5
+cast-t5 c = search needs
+
+found-requires : tie.Need-found-requires
+found-requires c κs = search needs
+
+cast-t7 : tie.Need-cast-t7
+cast-t7 c = search needs
+
+returns : tie.Need-returns
+returns c =
+    own-numbers (c .before .before .before .args .why) _ _ _ (c .before .before .number .ensures) (c .before .place .ensures) (c .found .ensures)
+
+pub refused-spec : {M : Type 1} → statement M
+refused-spec =
+    tie.close
+    (tie.spec number-requires cast-t3 place-requires cast-t5 found-requires cast-t7 returns)

@@ -1,0 +1,64 @@
+-- `tns::tns_cost` meets its contract: it tells what the cost door says.
+-- Assumes nothing.
+use mathlib.Core.Path.{_≡_, refl, sym, _∙_, ap, subst}
+use Prim.Native.Nat.{ℕ, _≤_}
+use borrow.Author.Needs.{needs}
+use Rattle.tns_refusals.specs.Refusals.{Verdict, accepted, placeIn, says}
+use Rattle.tns_refusals.specs.declared.Refusal.{Refusal}
+use Rattle.tns_tables.specs.Cost.{costOf, costSays}
+use Rattle.tns.specs.Answers.{told, noBits, itsBits}
+use Rattle.tns.specs.declared.Answer.{Answer}
+use Rattle.tns.proofs.Places.{cost-place}
+use Rattle.tns.proofs.Told.{refused-told}
+use Rattle.tns.proofs.tns_cost.Statement.{statement}
+use Rattle.tns.proofs.tns_cost.Tie as tie
+
+-- what the door said, of bits and of a refusal
+costs : (c : tie.After-answer) →
+    let g = c .before .before .before .before .before .args in
+    accepted (c .answer .given .0 .0) ≡ costOf (g .weighting) (g .filters) (g .orders .now) (g .indices .now)
+costs c = sym (ap costSays (c .answer .given .1)) ∙ c .before .before .cost .ensures .0
+
+said : (c : tie.After-answer2) →
+    let g = c .before .before .before .before .before .args in
+    says (c .answer2 .given .0 .0) ≡ costOf (g .weighting) (g .filters) (g .orders .now) (g .indices .now)
+said c = sym (ap costSays (c .answer2 .given .1)) ∙ c .before .before .cost .ensures .0
+
+cost-requires : tie.Need-cost-requires
+cost-requires c κs = search needs
+
+enum-known-answer : tie.Need-enum-known-answer
+enum-known-answer c = search needs
+
+accepted-requires : tie.Need-accepted-requires
+accepted-requires c κs = search needs
+
+enum-known-answer-2 : tie.Need-enum-known-answer-2
+enum-known-answer-2 c = search needs
+
+refused-requires : tie.Need-refused-requires
+refused-requires c κs =
+    let g = c .before .before .before .before .before .before .args in
+    let why = c .before .answer2 .given .0 .0 in
+    subst (λ (p : ℕ). p ≤ 15) (sym (ap (λ (v : Verdict ℕ). placeIn v) (said (c .before))) ∙ ap (λ (a : Answer). a .place) (refused-told itsBits noBits why))
+    (cost-place (g .weighting) (g .filters) (g .orders .now) (g .indices .now))
+
+returns : tie.Need-returns
+returns c = c .accepted .ensures ∙ ap (told itsBits) (costs (c .before .before))
+
+returns-2 : tie.Need-returns-2
+returns-2 c =
+    let why = c .before .before .answer2 .given .0 .0 in
+    c .refused .ensures ∙ refused-told noBits itsBits why ∙ ap (told itsBits) (said (c .before .before))
+
+pub tns-cost-spec : {M : Type 1} → statement M
+tns-cost-spec =
+    tie.close
+    (tie.spec
+    cost-requires
+    enum-known-answer
+    accepted-requires
+    enum-known-answer-2
+    refused-requires
+    returns
+    returns-2)

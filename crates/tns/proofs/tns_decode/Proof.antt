@@ -1,0 +1,69 @@
+-- `tns::tns_decode` meets its contract: it tells what the decode door says, and leaves the lines that the door leaves.
+-- Assumes nothing.
+use mathlib.Core.Path.{_≡_, refl, sym, _∙_, ap, subst}
+use Prim.Native.Nat.{ℕ, _≤_}
+use borrow.Author.Needs.{needs}
+use lib.ListN.{length}
+use Rattle.tns_refusals.specs.Refusals.{Verdict, noFault, placeIn, says}
+use Rattle.tns_decode.specs.Decoder.{decodeChecks, decodeSays}
+use Rattle.tns.specs.Answers.{told, noBits}
+use Rattle.tns.proofs.Places.{decode-place}
+use Rattle.tns.proofs.tns_decode.Statement.{statement}
+use Rattle.tns.proofs.tns_decode.Tie as tie
+
+-- what the door said, of a refusal and of a decoded spectrum
+said : (c : tie.After-answer) →
+    let g = c .before .before .before .before .before .before .before .before .before .args in
+    says (c .answer .given .0 .0) ≡ decodeChecks (g .duration) (g .bandwidth) (g .filters) (g .orders .now) (g .indices .now) (length (g .lines .now))
+said c = sym (ap decodeSays (c .answer .given .1)) ∙ c .before .before .before .before .decode .ensures .0
+
+decoded : (c : tie.After-enum-told) →
+    let g = c .before .before .before .before .before .before .before .before .before .args in
+    noFault ≡ decodeChecks (g .duration) (g .bandwidth) (g .filters) (g .orders .now) (g .indices .now) (length (g .lines .now))
+decoded c = sym (ap decodeSays (c .enum-told .given .1)) ∙ c .before .before .before .before .decode .ensures .0
+
+decode-requires : tie.Need-decode-requires
+decode-requires c κs = search needs
+
+enum-told : tie.Need-enum-told
+enum-told c = search needs
+
+accepted-requires : tie.Need-accepted-requires
+accepted-requires c κs = search needs
+
+enum-known-answer : tie.Need-enum-known-answer
+enum-known-answer c = search needs
+
+refused-requires : tie.Need-refused-requires
+refused-requires c κs =
+    let g = c .before .before .before .before .before .before .before .before .before .before .args in
+    subst (λ (v : Verdict (Unit {0})). placeIn v ≤ 15) (sym (said (c .before)))
+    (decode-place (g .duration) (g .bandwidth) (g .filters) (g .orders .now) (g .indices .now) (length (g .lines .now)))
+
+same-length : tie.Need-same-length
+same-length c = search needs
+
+returns : tie.Need-returns
+returns c =
+    (c .accepted .ensures ∙ ap (told noBits) (decoded (c .before)), c .before .before .before .before .before .decode .ensures .1)
+
+same-length-2 : tie.Need-same-length-2
+same-length-2 c = search needs
+
+returns-2 : tie.Need-returns-2
+returns-2 c =
+    (c .refused .ensures ∙ ap (told noBits) (said (c .before .before)), c .before .before .before .before .before .before .decode .ensures .1)
+
+pub tns-decode-spec : {M : Type 1} → statement M
+tns-decode-spec =
+    tie.close
+    (tie.spec
+    decode-requires
+    enum-told
+    accepted-requires
+    enum-known-answer
+    refused-requires
+    same-length
+    returns
+    same-length-2
+    returns-2)

@@ -1,0 +1,2 @@
+-- What a reader has to believe of the exported functions: how a verdict of document 01 is told in four numbers.
+pub mod Answers
