@@ -1,3 +1,4 @@
 -- The laws that belong to no one function.
 pub mod Places
 pub mod Told
+pub mod Determined

@@ -1,3 +1,4 @@
 -- The laws that belong to no one function.
 pub mod Filters
 pub mod Checks
+pub mod Determined
