@@ -51,9 +51,9 @@ row-decoded-requires : tie.Need-row-decoded-requires
 row-decoded-requires c κs =
     let told = c .before in
     let frame = told .before .before .before .before in
-    let g = frame .before .before .before .before .before .before .args in
-    ( sound-row (g .duration) (g .bandwidth) (length (g .lines .now)) (frame .frame2 .given .0 .0) (sym (passed frame))
-    , sound-side (g .filters) (g .orders .now) (g .indices .now) (sym (side-passed told))
+    let g = frame .before .before .before .before .before .before .args in (
+      sound-row (g .duration) (g .bandwidth) (length (g .lines .now)) (frame .frame2 .given .0 .0) (sym (passed frame)),
+      sound-side (g .filters) (g .orders .now) (g .indices .now) (sym (side-passed told)),
     )
 
 returns : tie.Need-returns
@@ -61,7 +61,7 @@ returns c =
     let g = c .before .before .before .before .before .before .before .args in
     let why = c .before .frame .given .0 .0 in
     let e = frame-refused (g .duration) (g .bandwidth) (g .filters) (g .orders .now) (g .indices .now) (length (g .lines .now)) why
-        (sym (ap frameSays (c .before .frame .given .1)) ∙ c .before .before .before .check-frame .ensures)
+    (sym (ap frameSays (c .before .frame .given .1)) ∙ c .before .before .before .check-frame .ensures)
     in
     (e, refused-spectrum (g .duration) (g .bandwidth) (g .filters) (g .orders .now) (g .indices .now) (g .lines .now) why e)
 
@@ -83,11 +83,11 @@ returns-3 c =
     let frame = told .before .before .before .before in
     let g = frame .before .before .before .before .before .before .args in
     let rest = frame-passed (g .duration) (g .bandwidth) (g .filters) (g .orders .now) (g .indices .now) (length (g .lines .now)) (frame .frame2 .given .0 .0) (passed frame) in
-    let e = side-passed told ∙ sym (rest .1) in
-    ( e
-    , c .before .before .row-decoded .ensures
-      ∙ ap (λ (row : Row). rowDecoded row (g .filters) (g .orders .now) (g .indices .now) (g .lines .now)) (rest .0)
-      ∙ accepted-spectrum (g .duration) (g .bandwidth) (g .filters) (g .orders .now) (g .indices .now) (g .lines .now) e
+    let e = side-passed told ∙ sym (rest .1) in (
+      e,
+      c .before .before .row-decoded .ensures
+          ∙ ap (λ (row : Row). rowDecoded row (g .filters) (g .orders .now) (g .indices .now) (g .lines .now)) (rest .0)
+          ∙ accepted-spectrum (g .duration) (g .bandwidth) (g .filters) (g .orders .now) (g .indices .now) (g .lines .now) e,
     )
 
 pub decode-spec : {M : Type 1} → statement M

@@ -41,11 +41,11 @@ returns c =
     let b = g .band in
     let xs = g .lines .now in
     let called = c .before .before .band-decoded in
-    let q = c .before .before .before .before .coefficients .ensures in
-    ( called .ensures .0 ∙ ap (λ (q : List Float). statesAfter q (g .order) (g .states) (inside b xs)) q
-    , ap (λ (l : List Float). take (b .start) xs ++ (l ++ drop (b .stop - b .start) (drop (b .start) xs)))
-      (called .ensures .1 ∙ ap (λ (q : List Float). linesDecoded q (g .order) (g .states) (inside b xs)) q)
-      ∙ band-back b xs (linesDecoded (map decoderCoefficient (g .indices .now)) (g .order) (g .states) (inside b xs)) (start .pre .0 .order)
+    let q = c .before .before .before .before .coefficients .ensures in (
+      called .ensures .0 ∙ ap (λ (q : List Float). statesAfter q (g .order) (g .states) (inside b xs)) q,
+      ap (λ (l : List Float). take (b .start) xs ++ (l ++ drop (b .stop - b .start) (drop (b .start) xs)))
+          (called .ensures .1 ∙ ap (λ (q : List Float). linesDecoded q (g .order) (g .states) (inside b xs)) q)
+          ∙ band-back b xs (linesDecoded (map decoderCoefficient (g .indices .now)) (g .order) (g .states) (inside b xs)) (start .pre .0 .order),
     )
 
 pub filter-decoded-spec : {M : Type 1} → statement M

@@ -42,11 +42,12 @@ filter-decoded-requires : tie.Need-filter-decoded-requires
 filter-decoded-requires c κs =
     let start = c .before .before .before .before .before .before .before in
     let side = start .pre .1 in
-    let g = start .args in
-    ( start .pre .0 .first-fits
-    , ( none-over 8 0 (g .orders .now) (side .orders-at-most-8) 0
-      , length-take-le 8 (g .indices .now) (omega (arith, side .sixteen-indices))
-      )
+    let g = start .args in (
+      start .pre .0 .first-fits,
+      (
+        none-over 8 0 (g .orders .now) (side .orders-at-most-8) 0,
+        length-take-le 8 (g .indices .now) (omega (arith, side .sixteen-indices)),
+      ),
     )
 
 same-length : tie.Need-same-length
@@ -75,11 +76,12 @@ filter-decoded-requires-2 c κs =
     let first = c .before .before .before .before .before .before in
     let start = first .before .before .before .before .before .before .before .before in
     let side = start .pre .1 in
-    let g = start .args in
-    ( subst (λ (n : ℕ). Fits (g .row .second) n) (sym (first .filter-decoded .kept .1 .1 .1 .1 .0)) (start .pre .0 .second-fits)
-    , ( none-over 8 0 (g .orders .now) (side .orders-at-most-8) 1
-      , eight (g .indices .now) (side .sixteen-indices)
-      )
+    let g = start .args in (
+      subst (λ (n : ℕ). Fits (g .row .second) n) (sym (first .filter-decoded .kept .1 .1 .1 .1 .0)) (start .pre .0 .second-fits),
+      (
+        none-over 8 0 (g .orders .now) (side .orders-at-most-8) 1,
+        eight (g .indices .now) (side .sixteen-indices),
+      ),
     )
 
 same-length-2 : tie.Need-same-length-2

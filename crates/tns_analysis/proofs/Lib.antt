@@ -1,0 +1,4 @@
+-- The laws that belong to no one function.
+pub mod Tab
+pub mod Adding
+pub mod Rows

@@ -1,0 +1,25 @@
+-- Document 01, "Analysis, one filter": from the lines of a band to its record and its eight reflection coefficients. Assumes nothing.
+use mathlib.Core.Bool.{Bool, true, false, cond}
+use mathlib.Core.List.{List}
+use Prim.Native.Nat.{ℕ}
+use lib.ListN.{replicate}
+use lib.Ieee.{Float}
+use Rattle.tns_rows.specs.declared.row.Band.{Band}
+use Rattle.tns_analysis.specs.Floats.{f0, at}
+use Rattle.tns_analysis.specs.Autocorrelation.{autocorrelation}
+use Rattle.tns_analysis.specs.Recursion.{predicted}
+use Rattle.tns_analysis.specs.Gain.{gainRecord}
+use Rattle.tns_analysis.specs.Reflections.{damped, reflections}
+use Rattle.tns_analysis.specs.declared.gain.FilterGain.{FilterGain}
+
+-- the record of a filter on a band
+unfoldable pub recordOf : Band → List Float → Bool → ℕ → FilterGain
+recordOf b lines flag weighting =
+    let r = autocorrelation b lines in
+    gainRecord (at r 0) (predicted r 8 .error) flag weighting
+
+-- its reflection coefficients: off gives eight zeros
+unfoldable pub reflectionsOf : Band → List Float → Bool → ℕ → List Float
+reflectionsOf b lines flag weighting =
+    let g = recordOf b lines flag weighting in
+    cond (g .on) (reflections (damped (predicted (autocorrelation b lines) 8 .row) (g .damping))) (replicate 8 f0)
