@@ -11,21 +11,19 @@ use Rattle.tns_rows.specs.Lines.{linesThrough, stateThrough}
 
 module _ {A S : Type 0} (becomes : S → A → A) (after : S → A → S) (d : A) where
   -- lines before i are done; the line at i takes its place, and the state goes on
-  pub one-more : (s : S) (xs : List A) (i : ℕ) → i < length xs
-      → take i xs ++ linesThrough becomes after s (drop i xs)
-      ≡ take (i + 1) (set xs i (becomes s (getD xs i d))) ++ linesThrough becomes after (after s (getD xs i d)) (drop (i + 1) (set xs i (becomes s (getD xs i d))))
+  pub one-more : (s next : S) (xs : List A) (i : ℕ) (v : A) → i < length xs → v ≡ becomes s (getD xs i d) → next ≡ after s (getD xs i d)
+      → take i xs ++ linesThrough becomes after s (drop i xs) ≡ take (i + 1) (set xs i v) ++ linesThrough becomes after next (drop (i + 1) (set xs i v))
   unfolding linesThrough
-  one-more s xs i h =
+  one-more s next xs i v h e f =
       let below : i < suc i = omega arith in
-      let v = becomes s (getD xs i d) in
-      rw (add-one, drop-set-lt (suc i) xs i v below, take-suc-set xs i v h, append-assoc, drop-cons xs i d h)
+      rw (add-one, drop-set-lt (suc i) xs i v below, take-suc-set xs i v h, append-assoc, drop-cons xs i d h, e, f)
 
-  pub state-more : (s : S) (xs : List A) (i : ℕ) (v : A) → i < length xs
-      → stateThrough after s (drop i xs) ≡ stateThrough after (after s (getD xs i d)) (drop (i + 1) (set xs i v))
+  pub state-more : (s next : S) (xs : List A) (i : ℕ) (v : A) → i < length xs → next ≡ after s (getD xs i d)
+      → stateThrough after s (drop i xs) ≡ stateThrough after next (drop (i + 1) (set xs i v))
   unfolding stateThrough
-  state-more s xs i v h =
+  state-more s next xs i v h f =
       let below : i < suc i = omega arith in
-      rw (add-one, drop-set-lt (suc i) xs i v below, drop-cons xs i d h)
+      rw (add-one, drop-set-lt (suc i) xs i v below, drop-cons xs i d h, f)
 
   pub none-left : (s : S) (xs : List A) (i : ℕ) → length xs ≤ i → take i xs ++ linesThrough becomes after s (drop i xs) ≡ xs
   unfolding linesThrough

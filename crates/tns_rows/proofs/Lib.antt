@@ -1,4 +1,5 @@
 -- The laws that belong to no one function.
 pub mod Frames
 pub mod InPlace
+pub mod Filled
 pub mod Determined

@@ -1,26 +1,16 @@
 -- `tns_decode::door::coefficients` meets its contract. The invariant: the places passed hold the coefficients of their indices.
 -- Assumes nothing.
 use mathlib.Core.Path.{_≡_, refl, sym, _∙_, ap}
-use mathlib.Core.List.{List, [], _∷_, _++_, map, map-append}
-use Prim.Native.Nat.{ℕ, suc, _+_, _-_, _<_, _≤_}
-use native.Mathlib.Numerals.{add-one}
+use mathlib.Core.List.{List, map}
+use Prim.Native.Nat.{ℕ, _+_, _-_, _<_, _≤_}
 use native.Mathlib.Omega.{arith}
 use borrow.Author.Needs.{needs}
 use lib.Ieee.{Float}
-use lib.ListN.{length, take, getD, set, length-set}
-use lib.Seq.{take-suc-set, take-suc, take-all}
+use lib.ListN.{length, take, length-set}
+use Rattle.tns_rows.proofs.Filled.{mapped-more, mapped-all}
 use Rattle.tns_decode.specs.Decoder.{decoderCoefficient}
 use Rattle.tns_decode.proofs.door.coefficients.Statement.{statement}
 use Rattle.tns_decode.proofs.door.coefficients.Tie as tie
-
--- one place more, and all of them
-one-more : (q : List Float) (is : List ℕ) (k : ℕ) (v : Float) → k < length q → k < length is → v ≡ decoderCoefficient (getD is k 0)
-    → take k q ≡ map decoderCoefficient (take k is) → take (k + 1) (set q k v) ≡ map decoderCoefficient (take (k + 1) is)
-one-more q is k v h g e t =
-    rw (add-one, take-suc-set q k v h, take-suc is k 0 g, map-append decoderCoefficient (take k is) (getD is k 0 ∷ []), t, e)
-
-all : (q : List Float) (is : List ℕ) (k : ℕ) → length q ≤ k → length is ≤ k → take k q ≡ map decoderCoefficient (take k is) → q ≡ map decoderCoefficient is
-all q is k h g t = sym (take-all k q h) ∙ t ∙ ap (map decoderCoefficient) (take-all k is g)
 
 abbrev Inv-loop : tie.InvT-loop
 Inv-loop indices q₀ k₀ q k = (k ≤ 8) × (length q ≡ 8) × (take k q ≡ map decoderCoefficient (take k indices))
@@ -56,7 +46,7 @@ loop-again c =
     let is = c .before .before .before .before .before .args .indices .now in (
       omega arith,
       simp length-set (l .inv .1),
-      one-more (l .q) is (l .k) (c .decoder-coefficient .result) (omega arith) (omega (arith, c .before .before .before .before .before .pre)) (c .decoder-coefficient .ensures) (l .inv .2),
+      mapped-more decoderCoefficient 0 (l .q) is (l .k) (c .decoder-coefficient .result) (omega arith) (omega (arith, c .before .before .before .before .before .pre)) (c .decoder-coefficient .ensures) (l .inv .2),
     )
 
 returns : tie.Need-returns Inv-loop μ-loop
@@ -64,7 +54,7 @@ returns c =
     let l = c .before .loop in
     let is = c .before .before .before .args .indices .now in
     let done : l .k ≡ 8 = omega arith in
-    all (l .q) is (l .k) (omega arith) (omega (arith, c .before .before .before .pre)) (l .inv .2)
+    mapped-all decoderCoefficient 0 (l .q) is (l .k) (omega arith) (omega (arith, c .before .before .before .pre)) (l .inv .2)
 
 pub coefficients-spec : {M : Type 1} → statement M
 coefficients-spec =

@@ -14,30 +14,13 @@ use Rattle.tns_decode.specs.declared.lattice.Passed.{Passed}
 use Rattle.tns_decode.proofs.lattice.lines_decoded.Statement.{statement}
 use Rattle.tns_decode.proofs.lattice.lines_decoded.Tie as tie
 
+-- what a line becomes, and the states after it
 module _ (q : List Float) (order : ℕ) where
-  becomes : List Float → Float → Float
+  abbrev becomes : List Float → Float → Float
   becomes s x = lineDecoded q order s x .t
 
-  after : List Float → Float → List Float
+  abbrev after : List Float → Float → List Float
   after s x = lineDecoded q order s x .states
-
-  line-more : (s xs : List Float) (i : ℕ) (p : Passed) → i < length xs → p ≡ lineDecoded q order s (getD xs i nan)
-      → take i xs ++ linesDecoded q order s (drop i xs) ≡ take (i + 1) (set xs i (p .t)) ++ linesDecoded q order (p .states) (drop (i + 1) (set xs i (p .t)))
-  unfolding linesDecoded becomes after
-  line-more s xs i p h e = rw e (one-more becomes after nan s xs i h)
-
-  states-more : (s xs : List Float) (i : ℕ) (p : Passed) → i < length xs → p ≡ lineDecoded q order s (getD xs i nan)
-      → statesAfter q order s (drop i xs) ≡ statesAfter q order (p .states) (drop (i + 1) (set xs i (p .t)))
-  unfolding statesAfter becomes after
-  states-more s xs i p h e = rw e (state-more becomes after nan s xs i (becomes s (getD xs i nan)) h)
-
-  lines-left : (s xs : List Float) (i : ℕ) → length xs ≤ i → take i xs ++ linesDecoded q order s (drop i xs) ≡ xs
-  unfolding linesDecoded becomes after
-  lines-left s xs i h = none-left becomes after nan s xs i h
-
-  states-left : (s xs : List Float) (i : ℕ) → length xs ≤ i → statesAfter q order s (drop i xs) ≡ s
-  unfolding statesAfter becomes after
-  states-left s xs i h = state-left becomes after nan s xs i h
 
 abbrev Inv-loop : tie.InvT-loop
 Inv-loop q order lines₀ state₀ i₀ lines state i =
@@ -74,25 +57,34 @@ loop-less : tie.Need-loop-less Inv-loop μ-loop
 loop-less c = omega arith
 
 loop-again : tie.Need-loop-again Inv-loop μ-loop
+unfolding linesDecoded statesAfter
 loop-again c =
     let l = c .before .before .before .before .loop in
     let g = c .before .before .before .before .before .before .args in
-    let called = c .before .line-decoded in (
+    let p = c .before .line-decoded .result in
+    let e = c .before .line-decoded .ensures in
+    let f = becomes (g .q) (g .order) in
+    let h = after (g .q) (g .order) in
+    let t = ap (λ (p : Passed). p .t) e in
+    let s = ap (λ (p : Passed). p .states) e in (
       omega arith,
       simp length-set (l .inv .1),
-      l .inv .2 ∙ line-more (g .q) (g .order) (l .state) (l .lines) (l .i) (called .result) (omega arith) (called .ensures),
-      l .inv .3 ∙ states-more (g .q) (g .order) (l .state) (l .lines) (l .i) (called .result) (omega arith) (called .ensures),
+      l .inv .2 ∙ one-more f h nan (l .state) (p .states) (l .lines) (l .i) (p .t) (omega arith) t s,
+      l .inv .3 ∙ state-more f h nan (l .state) (p .states) (l .lines) (l .i) (p .t) (omega arith) s,
     )
 
 same-length : tie.Need-same-length Inv-loop μ-loop
 same-length c = search needs
 
 returns : tie.Need-returns Inv-loop μ-loop
+unfolding linesDecoded statesAfter
 returns c =
     let l = c .before .loop in
-    let g = c .before .before .before .args in (
-      sym (l .inv .3 ∙ states-left (g .q) (g .order) (l .state) (l .lines) (l .i) (omega arith)),
-      sym (l .inv .2 ∙ lines-left (g .q) (g .order) (l .state) (l .lines) (l .i) (omega arith)),
+    let g = c .before .before .before .args in
+    let f = becomes (g .q) (g .order) in
+    let h = after (g .q) (g .order) in (
+      sym (l .inv .3 ∙ state-left f h nan (l .state) (l .lines) (l .i) (omega arith)),
+      sym (l .inv .2 ∙ none-left f h nan (l .state) (l .lines) (l .i) (omega arith)),
     )
 
 pub lines-decoded-spec : {M : Type 1} → statement M
