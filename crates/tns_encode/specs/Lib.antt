@@ -2,3 +2,4 @@
 pub mod Quantized
 pub mod Lattice
 pub mod Encoder
+pub mod Steps

@@ -7,3 +7,4 @@ mod quantize;
 pub use door::EncodeAnswer;
 pub use door::Encoded;
 pub use door::SideData;
+pub use door::encode;

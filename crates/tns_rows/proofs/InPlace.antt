@@ -37,3 +37,15 @@ module _ {A S : Type 0} (becomes : S → A → A) (after : S → A → S) (d : A
   unfolding linesThrough
   through-length s [] = refl
   through-length s (x ∷ xs) = ap suc (through-length (after s x) xs)
+
+  -- where a line and the state stay as they are, so do all lines
+  module _ (same-line : (s : S) (x : A) → becomes s x ≡ x) (same-state : (s : S) (x : A) → after s x ≡ s) where
+    pub lines-unchanged : (s : S) (xs : List A) → xs ≡ linesThrough becomes after s xs
+    unfolding linesThrough
+    lines-unchanged s [] = refl
+    lines-unchanged s (x ∷ xs) = rw (same-line s x, same-state s x) (ap (λ (l : List A). x ∷ l) (lines-unchanged s xs))
+
+    pub state-unchanged : (s : S) (xs : List A) → s ≡ stateThrough after s xs
+    unfolding stateThrough
+    state-unchanged s [] = refl
+    state-unchanged s (x ∷ xs) = rw (same-state s x) (state-unchanged s xs)

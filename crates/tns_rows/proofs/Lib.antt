@@ -2,4 +2,5 @@
 pub mod Frames
 pub mod InPlace
 pub mod Filled
+pub mod Orders
 pub mod Determined

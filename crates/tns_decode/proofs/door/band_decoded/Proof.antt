@@ -1,22 +1,15 @@
 -- `tns_decode::door::band_decoded` meets its contract: one law over the order serves every arm.
 -- Assumes nothing.
 use mathlib.Core.Path.{_≡_, refl, sym, _∙_, ap}
-use mathlib.Core.List.{List, [], _∷_}
-use Prim.Native.Nat.{ℕ, suc, _≤_, zero-le}
-use native.Mathlib.Omega.{arith}
+use mathlib.Core.List.{List}
+use Prim.Native.Nat.{ℕ}
 use borrow.Author.Needs.{needs}
-use lib.Ieee.{Float}
-use Rattle.tns_rows.specs.Lines.{linesThrough, stateThrough}
+use lib.Ieee.{Float, nan}
+use Rattle.tns_rows.proofs.InPlace.{lines-unchanged, state-unchanged}
+use Rattle.tns_rows.proofs.Orders.{only-8-left}
 use Rattle.tns_decode.specs.Lattice.{lineDecoded, linesDecoded, statesAfter}
 use Rattle.tns_decode.proofs.door.band_decoded.Statement.{statement}
 use Rattle.tns_decode.proofs.door.band_decoded.Tie as tie
-
--- an order that no arm before the last is for
-above : (n order : ℕ) → n ≤ order → (order ≡ n → ⊥) → suc n ≤ order
-above n order h k = omega arith
-
-exactly : (order : ℕ) → 8 ≤ order → order ≤ 8 → order ≡ 8
-exactly order h k = omega arith
 
 -- a call at the order itself
 arm : (order known : ℕ) → order ≡ known → (q s xs r ys : List Float)
@@ -24,15 +17,12 @@ arm : (order known : ℕ) → order ≡ known → (q s xs r ys : List Float)
 arm order known e q s xs r ys p = rw e p
 
 -- order 0 changes neither lines nor states
-unchanged-lines : (q s xs : List Float) → xs ≡ linesDecoded q 0 s xs
-unfolding linesDecoded linesThrough lineDecoded
-unchanged-lines q s [] = refl
-unchanged-lines q s (x ∷ xs) = ap (λ (l : List Float). x ∷ l) (unchanged-lines q s xs)
-
-unchanged-states : (q s xs : List Float) → s ≡ statesAfter q 0 s xs
-unfolding statesAfter stateThrough lineDecoded
-unchanged-states q s [] = refl
-unchanged-states q s (x ∷ xs) = unchanged-states q s xs
+unchanged : (q s xs : List Float) → (s ≡ statesAfter q 0 s xs) × (xs ≡ linesDecoded q 0 s xs)
+unfolding linesDecoded statesAfter lineDecoded
+unchanged q s xs =
+    let f : List Float → Float → Float = λ s x. x in
+    let h : List Float → Float → List Float = λ s x. s in
+    (state-unchanged f h nan (λ s x. refl) (λ s x. refl) s xs, lines-unchanged f h nan (λ s x. refl) (λ s x. refl) s xs)
 
 lines-decoded-requires : tie.Need-lines-decoded-requires
 lines-decoded-requires c κs = search needs
@@ -61,7 +51,7 @@ lines-decoded-requires-8 c κs = search needs
 returns : tie.Need-returns
 returns c =
     let g = c .before .before .args in
-    arm (g .order) 0 (c .match .keys1) (g .q) (g .states) (g .lines .now) _ _ (unchanged-states (g .q) (g .states) (g .lines .now), unchanged-lines (g .q) (g .states) (g .lines .now))
+    arm (g .order) 0 (c .match .keys1) (g .q) (g .states) (g .lines .now) _ _ (unchanged (g .q) (g .states) (g .lines .now))
 
 same-length : tie.Need-same-length
 same-length c = search needs
@@ -133,13 +123,11 @@ returns-9 : tie.Need-returns-9
 returns-9 c =
     let at = c .before .before .before .before in
     let g = at .before .before .args in
-    let o = g .order in
-    let not-it = at .match .rest in
-    let least : 8 ≤ o =
-    above 7 o (above 6 o (above 5 o (above 4 o (above 3 o (above 2 o (above 1 o (above 0 o zero-le
-    (not-it .0 .0 .0 .0 .0 .0 .0 .1)) (not-it .0 .0 .0 .0 .0 .0 .1)) (not-it .0 .0 .0 .0 .0 .1)) (not-it .0 .0 .0 .0 .1)) (not-it .0 .0 .0 .1)) (not-it .0 .0 .1)) (not-it .0 .1)) (not-it .1)
+    let r = at .match .rest in
+    let eight : g .order ≡ 8 =
+    only-8-left (g .order) (at .before .before .pre)
+    (r .0 .0 .0 .0 .0 .0 .0 .1) (r .0 .0 .0 .0 .0 .0 .1) (r .0 .0 .0 .0 .0 .1) (r .0 .0 .0 .0 .1) (r .0 .0 .0 .1) (r .0 .0 .1) (r .0 .1) (r .1)
     in
-    let eight : o ≡ 8 = exactly o least (at .before .before .pre) in
     arm (g .order) 8 eight (g .q) (g .states) (g .lines .now) _ _ (c .before .before .lines-decoded8 .ensures)
 
 pub band-decoded-spec : {M : Type 1} → statement M

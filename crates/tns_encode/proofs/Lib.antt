@@ -1,0 +1,4 @@
+-- The laws that belong to no one function.
+pub mod Lists
+pub mod Limits
+pub mod Frames

@@ -1,0 +1,55 @@
+-- `tns_encode::door::filter_encoded` meets its contract: the part that was lent comes back filtered, and the rest of the spectrum as it was.
+-- Assumes nothing.
+use mathlib.Core.Path.{_≡_, refl, sym, _∙_, ap}
+use mathlib.Core.List.{List, _++_}
+use Prim.Native.Nat.{ℕ, _-_}
+use borrow.Author.Needs.{needs}
+use lib.Ieee.{Float}
+use lib.ListN.{take, drop}
+use Rattle.tns_rows.specs.Bands.{inside, within}
+use Rattle.tns_rows.proofs.Frames.{band-back}
+use Rattle.tns_encode.specs.Lattice.{linesEncoded, statesAfter}
+use Rattle.tns_encode.proofs.door.filter_encoded.Statement.{statement}
+use Rattle.tns_encode.proofs.door.filter_encoded.Tie as tie
+
+mul-band-encoded : tie.Need-mul-band-encoded
+mul-band-encoded c = search needs
+
+sub-band-encoded : tie.Need-sub-band-encoded
+sub-band-encoded c = search needs
+
+part-band-encoded-start : tie.Need-part-band-encoded-start
+part-band-encoded-start c = search needs
+
+part-band-encoded-end : tie.Need-part-band-encoded-end
+part-band-encoded-end c = search needs
+
+band-encoded-requires : tie.Need-band-encoded-requires
+band-encoded-requires c κs = search needs
+
+same-length : tie.Need-same-length
+same-length c = search needs
+
+returns : tie.Need-returns
+returns c =
+    let called = c .before .before .band-encoded in
+    let start = c .before .before .before .before .before in
+    let g = start .args in
+    let b = g .band in
+    let xs = g .lines .now in (
+      called .ensures .0,
+      ap (λ (l : List Float). take (b .start) xs ++ (l ++ drop (b .stop - b .start) (drop (b .start) xs))) (called .ensures .1)
+          ∙ band-back b xs (linesEncoded (g .q) (g .order) (g .states) (inside b xs)) (start .pre .0 .order),
+    )
+
+pub filter-encoded-spec : {M : Type 1} → statement M
+filter-encoded-spec =
+    tie.close
+    (tie.spec
+    mul-band-encoded
+    sub-band-encoded
+    part-band-encoded-start
+    part-band-encoded-end
+    band-encoded-requires
+    same-length
+    returns)
