@@ -21,6 +21,35 @@ pub mod oracle_door {
         TemporalNoiseShaping::calc_bit_budget(count, weighting, rc_i, rc_order)
     }
 
+    /// The lags that E's analysis of one filter starts from.
+    pub fn lags(config: Lc3Config, p_bw: usize, f: usize, x_s: &[Scaler]) -> [Scaler; 9] {
+        let tns = TemporalNoiseShaping::new(config).get_tns_params(p_bw);
+        TemporalNoiseShaping::compute_normalized_autocorrelation(
+            &tns.sub_start[f],
+            &tns.sub_stop[f],
+            x_s,
+        )
+    }
+
+    /// E's reflection coefficients of every filter before they are quantized.
+    pub fn reflection(
+        config: Lc3Config,
+        p_bw: usize,
+        near_nyquist_flag: bool,
+        lpc_weighting: u8,
+        x_s: &[Scaler],
+    ) -> [Scaler; 16] {
+        let filters = TemporalNoiseShaping::new(config)
+            .get_tns_params(p_bw)
+            .num_tns_filters;
+        let mut rc = [0.0; 16];
+        for f in 0..filters {
+            let r = lags(config, p_bw, f, x_s);
+            TemporalNoiseShaping::tns_analysis(&r, f, near_nyquist_flag, lpc_weighting, &mut rc);
+        }
+        rc
+    }
+
     /// E's expression, by itself.
     #[inline(never)]
     pub fn powi(gamma: Scaler, k: usize) -> Scaler {

@@ -9,6 +9,7 @@ use std::path::Path;
 const RANDOM: u64 = 20_000_000;
 
 /// One frame's numbers, as E takes them.
+#[derive(Clone, Debug, PartialEq)]
 pub struct Frame {
     pub weighting: u8,
     pub filters: usize,

@@ -7,7 +7,6 @@ use crate::rows::{Row, ROWS};
 use crate::same::first_change;
 use crate::strange::line;
 use std::hint::black_box;
-use std::panic::{set_hook, take_hook};
 
 /// D on lines of ones: which lines changed.
 fn ask(
@@ -36,8 +35,6 @@ fn ask(
 }
 
 pub fn run(build: &Build) {
-    let hook = take_hook();
-    set_hook(Box::new(|_| {}));
     let nines = [9usize; 32];
     let i16 = &nines[..16];
     let with = |place: usize, index: usize| {
@@ -98,5 +95,4 @@ pub fn run(build: &Build) {
         80,
     );
     say("index 255 used", two, 2, &[1, 1], &with(8, 255), 400);
-    set_hook(hook);
 }

@@ -5,8 +5,8 @@
 
 use crate::builds::{both, Build};
 use crate::cost::Frame;
-use crate::list_decode;
 use crate::random::{Random, SEED};
+use crate::{list_decode, list_encode};
 use std::path::Path;
 
 const COST_RECORDS: usize = 4000;
@@ -219,5 +219,6 @@ pub fn run(root: &Path) -> bool {
     let mut good = cost_list(&builds, root);
     good &= index_list(&builds, root);
     good &= list_decode::run(&builds, root);
+    good &= list_encode::run(&builds, root);
     good
 }

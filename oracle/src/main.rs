@@ -9,6 +9,7 @@
 
 mod answer;
 mod builds;
+mod caught;
 mod compare;
 mod cost;
 #[cfg(feature = "decode")]
@@ -18,7 +19,19 @@ mod decode_call;
 mod decode_refusals;
 #[cfg(feature = "decode")]
 mod decode_strange;
+#[cfg(feature = "encode")]
+mod encode;
+mod encode_call;
+mod encode_draw;
+#[cfg(feature = "encode")]
+mod encode_refusals;
+mod encode_steer;
+#[cfg(feature = "lc3")]
+mod lc3;
+#[cfg(feature = "lc3")]
+mod lc3_calls;
 mod list_decode;
+mod list_encode;
 mod lists;
 #[cfg(any(feature = "decode", feature = "encode", feature = "lc3"))]
 mod port;
@@ -48,6 +61,10 @@ fn main() -> ExitCode {
         "lists" => lists::run(&root),
         #[cfg(feature = "decode")]
         "decode" => decode::run(),
+        #[cfg(feature = "encode")]
+        "encode" => encode::run(),
+        #[cfg(feature = "lc3")]
+        "lc3" => lc3::run(),
         _ => {
             eprintln!("oracle: no such word");
             return ExitCode::from(2);

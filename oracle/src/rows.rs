@@ -6,6 +6,8 @@ pub struct Row {
     pub bandwidth: u8,
     /// Start and stop of each band, stop not included.
     pub bands: &'static [(usize, usize)],
+    /// The two cuts that make three subbands of each band.
+    pub cuts: &'static [[usize; 2]],
 }
 
 impl Row {
@@ -16,6 +18,21 @@ impl Row {
     /// The longest spectrum of the row's duration.
     pub fn longest(&self) -> usize {
         longest(self.duration)
+    }
+
+    /// Below this bit number the weighting is 1.
+    pub fn limit(&self) -> u64 {
+        if self.duration == 0 {
+            480
+        } else {
+            360
+        }
+    }
+
+    /// Start and stop of a band's three subbands.
+    pub fn subbands(&self, band: usize) -> [(usize, usize); 3] {
+        let ((start, stop), [a, b]) = (self.bands[band], self.cuts[band]);
+        [(start, a), (a, b), (b, stop)]
     }
 
     pub fn name(&self) -> String {
@@ -32,23 +49,30 @@ pub fn longest(duration: u8) -> usize {
     }
 }
 
-const fn row(duration: u8, bandwidth: u8, bands: &'static [(usize, usize)]) -> Row {
+const fn row(
+    duration: u8,
+    bandwidth: u8,
+    bands: &'static [(usize, usize)],
+    cuts: &'static [[usize; 2]],
+) -> Row {
     Row {
         duration,
         bandwidth,
         bands,
+        cuts,
     }
 }
 
+#[rustfmt::skip]
 pub static ROWS: [Row; 10] = [
-    row(0, 0, &[(12, 80)]),
-    row(0, 1, &[(12, 160)]),
-    row(0, 2, &[(12, 240)]),
-    row(0, 3, &[(12, 160), (160, 320)]),
-    row(0, 4, &[(12, 200), (200, 400)]),
-    row(1, 0, &[(9, 60)]),
-    row(1, 1, &[(9, 120)]),
-    row(1, 2, &[(9, 180)]),
-    row(1, 3, &[(9, 120), (120, 240)]),
-    row(1, 4, &[(9, 150), (150, 300)]),
+    row(0, 0, &[(12, 80)], &[[34, 57]]),
+    row(0, 1, &[(12, 160)], &[[61, 110]]),
+    row(0, 2, &[(12, 240)], &[[88, 164]]),
+    row(0, 3, &[(12, 160), (160, 320)], &[[61, 110], [213, 266]]),
+    row(0, 4, &[(12, 200), (200, 400)], &[[74, 137], [266, 333]]),
+    row(1, 0, &[(9, 60)], &[[26, 43]]),
+    row(1, 1, &[(9, 120)], &[[46, 83]]),
+    row(1, 2, &[(9, 180)], &[[66, 123]]),
+    row(1, 3, &[(9, 120), (120, 240)], &[[46, 82], [159, 200]]),
+    row(1, 4, &[(9, 150), (150, 300)], &[[56, 103], [200, 250]]),
 ];

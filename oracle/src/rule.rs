@@ -48,3 +48,60 @@ pub fn index(thresholds: &[u32; 8], magnitude: u32, negative: bool) -> usize {
         8 + count
     }
 }
+
+/// The gain of document 01's recursion over nine lags: r[0]/error, or r[0]
+/// where the error is zero.
+pub fn gain(lags: &[f32; 9]) -> f32 {
+    let mut a = [0.0f32; 9];
+    a[0] = 1.0;
+    let mut error = lags[0];
+    for k in 1..9 {
+        let before = a;
+        let mut rc = 0.0;
+        for n in 0..k {
+            rc -= before[n] * lags[k - n];
+        }
+        if error != 0.0 {
+            rc /= error;
+        }
+        for n in 1..k {
+            a[n] = before[n] + rc * before[k - n];
+        }
+        a[k] = rc;
+        error *= 1.0 - rc * rc;
+    }
+    if error == 0.0 {
+        lags[0]
+    } else {
+        lags[0] / error
+    }
+}
+
+/// The encoder's lattice over whole bands, the state carried between them.
+/// Assumes eight coefficients for each band.
+pub fn encoder_lattice(
+    bands: &[(usize, usize)],
+    orders: &[usize; 2],
+    coefficients: &[f32; 16],
+    lines: &mut [f32],
+) {
+    let mut state = [0.0f32; 8];
+    for (f, (start, stop)) in bands.iter().enumerate() {
+        let q = &coefficients[f * 8..f * 8 + orders[f]];
+        let Some((last, stages)) = q.split_last() else {
+            continue;
+        };
+        for line in &mut lines[*start..*stop] {
+            let (mut t, mut b) = (*line, *line);
+            for (k, q) in stages.iter().enumerate() {
+                let old = state[k];
+                state[k] = b;
+                b = q * t + old;
+                t += q * old;
+            }
+            t += last * state[stages.len()];
+            state[stages.len()] = b;
+            *line = t;
+        }
+    }
+}

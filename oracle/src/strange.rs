@@ -2,16 +2,16 @@
 //! document 01 refuses or changes. One line each; panics are caught.
 
 use crate::builds::{both, Build};
+use crate::caught::caught;
 use original_std::common::config::{FrameDuration, Lc3Config};
 use original_std::decoder::side_info::Bandwidth;
 use original_std::decoder::temporal_noise_shaping::apply_temporal_noise_shaping;
 use original_std::encoder::temporal_noise_shaping::TemporalNoiseShaping;
 use std::hint::black_box;
-use std::panic::{catch_unwind, set_hook, take_hook, AssertUnwindSafe};
 
 /// `act` gives a sentence; a panic gives "panics".
 pub fn line(who: &str, input: &str, act: impl FnOnce() -> String) {
-    let what = catch_unwind(AssertUnwindSafe(act)).unwrap_or_else(|_| "panics".to_string());
+    let what = caught(act).unwrap_or_else(|| "panics".to_string());
     println!("strange: {who}: {input}: {what}");
 }
 
@@ -172,11 +172,8 @@ fn decoder() {
 
 pub fn run() {
     let builds = both();
-    let hook = take_hook();
-    set_hook(Box::new(|_| {}));
     encoder_cost(&builds[0]);
     encoder_quantize(&builds[0]);
     encoder_run();
     decoder();
-    set_hook(hook);
 }

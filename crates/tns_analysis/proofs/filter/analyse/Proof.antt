@@ -63,10 +63,10 @@ returns c =
     let p = predicting .predict .result in
     let er = lagged .autocorrelated .ensures in
     let ep = predicting .predict .ensures in
-    let eg = record-is (g .band) xs (g .flag) (g .weighting) (lagged .autocorrelated .result) p (gained .gain-record .result) er ep (gained .gain-record .ensures) in
-    ( eg
-    , on-is (g .band) xs (g .flag) (g .weighting) p (gained .gain-record .result) (c .reflected-row .result) eg (ep ∙ ap (λ (r : List Float). predicted r 8) er) (damping .before .before .if1 .taken)
-      (c .reflected-row .ensures ∙ ap reflections (damping .damped-row .ensures))
+    let eg = record-is (g .band) xs (g .flag) (g .weighting) (lagged .autocorrelated .result) p (gained .gain-record .result) er ep (gained .gain-record .ensures) in (
+      eg,
+      on-is (g .band) xs (g .flag) (g .weighting) p (gained .gain-record .result) (c .reflected-row .result) eg (ep ∙ ap (λ (r : List Float). predicted r 8) er) (damping .before .before .if1 .taken)
+          (c .reflected-row .ensures ∙ ap reflections (damping .damped-row .ensures)),
     )
 
 returns-2 : tie.Need-returns-2
@@ -77,7 +77,7 @@ returns-2 c =
     let g = lagged .before .before .args in
     let xs = g .lines .now in
     let eg = record-is (g .band) xs (g .flag) (g .weighting) (lagged .autocorrelated .result) (predicting .predict .result) (gained .gain-record .result)
-        (lagged .autocorrelated .ensures) (predicting .predict .ensures) (gained .gain-record .ensures)
+    (lagged .autocorrelated .ensures) (predicting .predict .ensures) (gained .gain-record .ensures)
     in
     (eg, off-is (g .band) xs (g .flag) (g .weighting) (gained .gain-record .result) eg (c .if1 .left))
 

@@ -1,0 +1,159 @@
+//! Part of the word `lists`: crates/replay_encode/stdin, whole encoder calls
+//! with E's answers. E and document 01 differ by intent on 10 ms bandwidth 2
+//! with a filter on, and at coefficients of exactly 1 or -1; such calls are left
+//! out.
+
+use crate::builds::Build;
+use crate::encode_call::{offered, Call, Outcome};
+use crate::encode_draw::{draw, ACTIVE, GAIN_DAMPED, GAIN_ON, KINDS, SILENCE, THRESHOLD};
+use crate::encode_steer::is_threshold;
+use crate::lists::{patterns, write};
+use crate::random::{Random, SEED};
+use crate::rows::ROWS;
+use std::path::Path;
+
+/// Draws before a search is given up.
+const PATIENCE: usize = 100_000;
+
+struct Search<'a> {
+    build: &'a Build,
+    random: Random,
+    found: Vec<(Call, Outcome)>,
+    failed: usize,
+}
+
+impl Search<'_> {
+    /// Draws until E's answer passes the test, and keeps that call.
+    fn find(&mut self, row: usize, kinds: &[usize], test: impl Fn(&Call, &Outcome) -> bool) {
+        let lengths = offered(&ROWS[row]);
+        let wide = (ROWS[row].duration, ROWS[row].bandwidth) == (0, 2);
+        for _ in 0..PATIENCE {
+            let random = &mut self.random;
+            let kind = kinds[random.below(kinds.len())];
+            let length = lengths[self.found.len() % lengths.len()];
+            let mut taken = None;
+            draw(random, self.build, row, kind, length, |call| {
+                let mut call = call.clone();
+                // The list has room for 32 bits.
+                call.bits = call.bits.min(u64::from(u32::MAX));
+                let Some(outcome) = call.ask(self.build) else {
+                    return;
+                };
+                let agrees = !wide || outcome.side.orders[0] == 0;
+                if taken.is_none() && agrees && test(&call, &outcome) {
+                    taken = Some((call, outcome));
+                }
+            });
+            if let Some(taken) = taken {
+                self.found.push(taken);
+                return;
+            }
+        }
+        println!("lists: no encoder call found, row {row}, kinds {kinds:?}");
+        self.failed += 1;
+    }
+
+    /// Calls of a row until every order from 1 to 8 stands in every filter.
+    fn every_order(&mut self, row: usize) {
+        let filters = ROWS[row].bands.len();
+        let mut missing = vec![(1..=8).collect::<Vec<usize>>(); filters];
+        while missing.iter().any(|orders| !orders.is_empty()) {
+            let wanted = missing.clone();
+            let before = self.found.len();
+            self.find(row, &ACTIVE, |_, outcome| {
+                (0..filters).any(|f| wanted[f].contains(&outcome.side.orders[f]))
+            });
+            if self.found.len() == before {
+                return;
+            }
+            let (_, outcome) = &self.found[before];
+            for (orders, order) in missing.iter_mut().zip(&outcome.side.orders) {
+                orders.retain(|n| n != order);
+            }
+        }
+    }
+
+    /// Every other kind twice, on one row and another.
+    fn every_kind(&mut self) {
+        for again in 0..2 {
+            for kind in (0..KINDS).filter(|k| !ACTIVE.contains(k) && *k != SILENCE) {
+                let row = (kind + 5 * again) % ROWS.len();
+                self.find(row, &[kind], |_, _| true);
+            }
+        }
+    }
+
+    /// Calls exactly at a limit of the analysis.
+    fn limits(&mut self) {
+        let build = self.build;
+        let at = |call: &Call, gain: f32| call.gain(build, 0) == gain && !call.near_nyquist;
+        for row in [0, 8] {
+            self.find(row, &[GAIN_ON], |call, _| at(call, 1.5));
+            self.find(row, &[GAIN_DAMPED], |call, _| {
+                at(call, 2.0) && call.weighting() == 1
+            });
+            self.find(row, &[THRESHOLD], |call, outcome| {
+                let reflection = call.reflection(build);
+                reflection.into_iter().any(is_threshold) && outcome.side.orders[0] > 0
+            });
+            // A leaning spectrum that only the flag keeps as it is.
+            self.find(row, &ACTIVE, |call, _| {
+                call.near_nyquist && call.gain(build, 0) > 4.0
+            });
+        }
+    }
+}
+
+fn record(call: &Call, outcome: &Outcome) -> Vec<u8> {
+    let row = call.row();
+    let mut bytes = vec![row.duration, row.bandwidth, u8::from(call.near_nyquist)];
+    bytes.extend((call.bits as u32).to_le_bytes());
+    bytes.extend((call.lines.len() as u16).to_le_bytes());
+    for line in &call.lines {
+        bytes.extend(line.to_bits().to_le_bytes());
+    }
+    bytes.extend((outcome.bits as u16).to_le_bytes());
+    bytes.extend(outcome.side.record());
+    for pattern in patterns(&outcome.coefficients) {
+        bytes.extend(pattern.to_le_bytes());
+    }
+    for pattern in patterns(&outcome.lines) {
+        bytes.extend(pattern.to_le_bytes());
+    }
+    bytes
+}
+
+pub fn run(builds: &[Build; 2], root: &Path) -> bool {
+    let mut search = Search {
+        build: &builds[0],
+        random: Random(SEED),
+        found: Vec::new(),
+        failed: 0,
+    };
+    for (n, row) in ROWS.iter().enumerate() {
+        search.find(n, &[SILENCE], |_, _| true);
+        if (row.duration, row.bandwidth) == (0, 2) {
+            for _ in 0..3 {
+                search.find(n, &ACTIVE, |_, _| true);
+            }
+        } else {
+            search.every_order(n);
+        }
+    }
+    search.every_kind();
+    search.limits();
+    let mut bytes = Vec::new();
+    let (mut active, mut differ) = (0, 0);
+    for (call, outcome) in &search.found {
+        bytes.extend(record(call, outcome));
+        active += usize::from(outcome.side.orders != [0, 0]);
+        let other = call.ask(&builds[1]);
+        differ += usize::from(other.is_none_or(|other| outcome.difference(&other).is_some()));
+    }
+    println!(
+        "lists: crates/replay_encode/stdin: {} records, {} bytes, {active} with a filter on; libm differs at {differ}",
+        search.found.len(),
+        bytes.len()
+    );
+    write(&root.join("crates/replay_encode/stdin"), &bytes) && search.failed == 0
+}
