@@ -2,3 +2,4 @@
 pub mod Places
 pub mod Told
 pub mod Determined
+pub mod Sides

@@ -7,6 +7,7 @@ use Prim.Native.Nat.{ℕ, suc, _+_, _≤_, _<_}
 use native.Mathlib.Omega.{arith}
 use lib.Dec.{ltb, eqb}
 use borrow.Author.Tests.{eqb-true}
+use lib.Ieee.{Float}
 use lib.ListN.{length}
 use Rattle.tns_refusals.specs.Refusals.{Verdict, accepted, noFault, placeIn, check, checkAt, lowestOver, sideChecks}
 use Rattle.tns_refusals.specs.declared.Over.{Over}
@@ -15,6 +16,8 @@ use Rattle.tns_tables.specs.Cost.{costOf, countedBits}
 use Rattle.tns_rows.specs.Durations.{kept, durationOf}
 use Rattle.tns_rows.specs.Bands.{frameChecks, rowOf, lastStop}
 use Rattle.tns_decode.specs.Decoder.{decodeChecks}
+use Rattle.tns_encode.specs.Encoder.{encodeVerdict, bitsIn, sideOf, weightingIn}
+use Rattle.tns.proofs.Sides.{bits-place}
 
 -- the lowest place over a limit is one of the list's
 found-before-end : (limit place : ℕ) (xs : List ℕ) (p f : ℕ) → lowestOver limit place xs ≡ At p f → p < place + length xs
@@ -61,11 +64,21 @@ cost-place weighting filters orders indices =
     sides-place filters orders indices (check 8 (ltb 1 weighting) (accepted (countedBits weighting filters orders indices)))
     (check-place 8 (ltb 1 weighting) (accepted (countedBits weighting filters orders indices)) (omega arith))
 
-pub decode-place : (duration bandwidth filters : ℕ) (orders indices : List ℕ) (lines : ℕ)
-    → placeIn (decodeChecks duration bandwidth filters orders indices lines) ≤ 15
-unfolding decodeChecks frameChecks
-decode-place duration bandwidth filters orders indices lines =
+frames-place : {A : Type 0} (duration bandwidth lines : ℕ) (next : Verdict A) → placeIn next ≤ 15 → placeIn (frameChecks duration bandwidth lines next) ≤ 15
+unfolding frameChecks
+frames-place duration bandwidth lines next h =
     check-place 1 (ltb 1 duration) _
     (check-place 2 (ltb 4 bandwidth) _
-    (check-place 3 (ltb lines (lastStop (rowOf (durationOf duration) bandwidth)) || ltb (kept (durationOf duration) .longest) lines) _
-    (sides-place filters orders indices noFault (omega arith))))
+    (check-place 3 (ltb lines (lastStop (rowOf (durationOf duration) bandwidth)) || ltb (kept (durationOf duration) .longest) lines) next h))
+
+pub decode-place : (duration bandwidth filters : ℕ) (orders indices : List ℕ) (lines : ℕ)
+    → placeIn (decodeChecks duration bandwidth filters orders indices lines) ≤ 15
+unfolding decodeChecks
+decode-place duration bandwidth filters orders indices lines =
+    frames-place duration bandwidth lines (sideChecks filters orders indices noFault) (sides-place filters orders indices noFault (omega arith))
+
+pub encode-place : (duration bandwidth bits : ℕ) (flag : Bool) (lines : List Float) → placeIn (bitsIn (encodeVerdict duration bandwidth bits flag lines)) ≤ 15
+unfolding encodeVerdict
+encode-place duration bandwidth bits flag lines =
+    let side = sideOf (rowOf (durationOf duration) bandwidth) lines flag (weightingIn duration bits) in
+    bits-place (frameChecks duration bandwidth (length lines) (accepted side)) (frames-place duration bandwidth (length lines) (accepted side) (omega arith))

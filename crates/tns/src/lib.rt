@@ -3,6 +3,9 @@
 // numbers are those of the door's definition. Assumes nothing.
 use tns_decode::DecodeAnswer;
 use tns_decode::decode;
+use tns_encode::EncodeAnswer;
+use tns_encode::SideData;
+use tns_encode::encode;
 use tns_refusals::Refusal;
 use tns_tables::CostAnswer;
 use tns_tables::cost;
@@ -12,7 +15,9 @@ ghost use lib.ListN.{length};
 ghost use Rattle.tns_refusals.specs.Refusals.{placeIn, says};
 ghost use Rattle.tns_tables.specs.Cost.{costOf};
 ghost use Rattle.tns_decode.specs.Decoder.{decodeChecks, spectrumDecoded};
+ghost use Rattle.tns_encode.specs.Encoder.{encodeVerdict, bitsIn, spectrumEncoded};
 ghost use Rattle.tns.specs.Answers.{told, accepts, noBits, itsBits};
+ghost use Rattle.tns.specs.Sides.{recordOf, recordAfter, coefficientsAfter};
 
 // What a call answers. Refusal 0 says that it is accepted, and any other is document 01's number.
 // Place and found are those of refusals 6 and 7, and 0 else. Bits are those of an accepted cost, and
@@ -65,6 +70,69 @@ pub extern "C" fn tns_decode(
     match answer {
         DecodeAnswer::Decoded => accepted(0),
         DecodeAnswer::Refused(why) => refused(why),
+    }
+}
+
+// Side data as the 20 bytes of the bits program.
+fn record_of(s: SideData) -> [u8; 20]
+    requires { ⌜ (length (s .orders) ≡ 2) × (length (s .indices) ≡ 16) ⌝ }
+    ensures { λ r. ⌜ r ≡ recordOf s ⌝ }
+{
+    let o = s.orders;
+    let i = s.indices;
+    [
+        s.weighting,
+        s.filters,
+        o[0],
+        o[1],
+        i[0],
+        i[1],
+        i[2],
+        i[3],
+        i[4],
+        i[5],
+        i[6],
+        i[7],
+        i[8],
+        i[9],
+        i[10],
+        i[11],
+        i[12],
+        i[13],
+        i[14],
+        i[15],
+    ]
+}
+
+// Encodes a spectrum in place, as `tns_encode::encode`. An accepted call writes its side data as the
+// 20 bytes of the bits program, and its coefficients; a refused one writes nothing anywhere. `flag` is
+// the near-Nyquist flag.
+#[no_mangle]
+pub extern "C" fn tns_encode(
+    duration: u8,
+    bandwidth: u8,
+    bits: u64,
+    flag: bool,
+    lines: &mut [f32],
+    side: &mut [u8; 20],
+    coefficients: &mut [f32; 16],
+) -> Answer
+    ensures { λ r. ⌜ r ≡ told itsBits (bitsIn (encodeVerdict duration bandwidth bits flag (now (lines .entry)))) ⌝ }
+    ensures { λ _. ⌜ now (lines .exit) ≡ spectrumEncoded duration bandwidth bits flag (now (lines .entry)) ⌝ }
+    ensures { λ _. ⌜ now (side .exit) ≡ recordAfter (encodeVerdict duration bandwidth bits flag (now (lines .entry))) (now (side .entry)) ⌝ }
+    ensures { λ _. ⌜ now (coefficients .exit) ≡ coefficientsAfter (encodeVerdict duration bandwidth bits flag (now (lines .entry))) (now (coefficients .entry)) ⌝ }
+{
+    let encoded = encode(duration, bandwidth, bits, flag, lines);
+    let answer = encoded.answer;
+    match answer {
+        EncodeAnswer::Refused(why) => refused(why),
+        EncodeAnswer::Bits(n) => {
+            let s = encoded.side;
+            let q = s.coefficients;
+            *side = record_of(s);
+            *coefficients = q;
+            accepted(n)
+        }
     }
 }
 

@@ -43,7 +43,7 @@ by-refusal P r at (Index place found) = at 7 place found
 by-refusal P r at Weighting = r 8
 
 -- a refusal has a number
-says-number : (A : Type 0) (why : Refusal) → 0 < numberIn (says {A = A} why)
+pub says-number : (A : Type 0) (why : Refusal) → 0 < numberIn (says {A = A} why)
 says-number A Duration = omega arith
 says-number A Bandwidth = omega arith
 says-number A SpectrumLength = omega arith

@@ -1,0 +1,92 @@
+-- `tns::tns_encode` meets its contract: it tells what the encode door says, and writes what the door gives.
+-- Assumes nothing.
+use mathlib.Core.Path.{_≡_, refl, sym, _∙_, ap, subst}
+use Prim.Native.Nat.{ℕ, _≤_}
+use borrow.Author.Needs.{needs}
+use Rattle.tns_refusals.specs.Refusals.{Verdict, accepted, placeIn, says}
+use Rattle.tns_encode.specs.Encoder.{encodeVerdict, bitsIn, encodeSays}
+use Rattle.tns.specs.Answers.{told, noBits, itsBits}
+use Rattle.tns.specs.declared.Answer.{Answer}
+use Rattle.tns.proofs.Places.{encode-place}
+use Rattle.tns.proofs.Sides.{refused-writes, accepted-writes}
+use Rattle.tns.proofs.Told.{refused-told}
+use Rattle.tns.proofs.tns_encode.Statement.{statement}
+use Rattle.tns.proofs.tns_encode.Tie as tie
+
+-- what the door said, of a refusal and of bits
+said : (c : tie.After-answer) →
+    let g = c .before .before .before .before .before .before .before .args in
+    says (c .answer .given .0 .0) ≡ bitsIn (encodeVerdict (g .duration) (g .bandwidth) (g .bits) (g .flag) (g .lines .now))
+said c = sym (ap encodeSays (c .answer .given .1)) ∙ c .before .before .before .before .encode .ensures .0
+
+costs : (c : tie.After-answer2) →
+    let g = c .before .before .before .before .before .before .before .args in
+    accepted (c .answer2 .given .0 .0) ≡ bitsIn (encodeVerdict (g .duration) (g .bandwidth) (g .bits) (g .flag) (g .lines .now))
+costs c = sym (ap encodeSays (c .answer2 .given .1)) ∙ c .before .before .before .before .encode .ensures .0
+
+encode-requires : tie.Need-encode-requires
+encode-requires c κs = search needs
+
+enum-known-answer : tie.Need-enum-known-answer
+enum-known-answer c = search needs
+
+refused-requires : tie.Need-refused-requires
+refused-requires c κs =
+    let answered = c .before in
+    let g = answered .before .before .before .before .before .before .before .args in
+    let why = answered .answer .given .0 .0 in
+    subst (λ (p : ℕ). p ≤ 15) (sym (ap (λ (v : Verdict ℕ). placeIn v) (said answered)) ∙ ap (λ (a : Answer). a .place) (refused-told itsBits noBits why))
+    (encode-place (g .duration) (g .bandwidth) (g .bits) (g .flag) (g .lines .now))
+
+enum-known-answer-2 : tie.Need-enum-known-answer-2
+enum-known-answer-2 c = search needs
+
+record-of-requires : tie.Need-record-of-requires
+record-of-requires c κs = search needs
+
+accepted-requires : tie.Need-accepted-requires
+accepted-requires c κs = search needs
+
+same-length : tie.Need-same-length
+same-length c = search needs
+
+returns : tie.Need-returns
+returns c =
+    let answered = c .before .before in
+    let encoded = answered .before .before .before .before in
+    let g = encoded .before .before .before .args in
+    let why = answered .answer .given .0 .0 in
+    let writes = refused-writes (encodeVerdict (g .duration) (g .bandwidth) (g .bits) (g .flag) (g .lines .now)) why (said answered) (g .side .now) (g .coefficients .now) in (
+      c .refused .ensures ∙ refused-told noBits itsBits why ∙ ap (told itsBits) (said answered),
+      (encoded .encode .ensures .1 .1, (writes .0, writes .1)),
+    )
+
+same-length-2 : tie.Need-same-length-2
+same-length-2 c = search needs
+
+returns-2 : tie.Need-returns-2
+returns-2 c =
+    let recorded = c .before in
+    let answered = recorded .before .before .before .before in
+    let encoded = answered .before .before .before .before in
+    let g = encoded .before .before .before .args in
+    let v = encodeVerdict (g .duration) (g .bandwidth) (g .bits) (g .flag) (g .lines .now) in
+    let writes = accepted-writes v (answered .answer2 .given .0 .0) (encoded .encode .result .side) (costs answered) (encoded .encode .ensures .1 .0) (g .side .now) (g .coefficients .now) in (
+      c .accepted .ensures ∙ ap (told itsBits) (costs answered),
+      (encoded .encode .ensures .1 .1, (recorded .record-of .ensures ∙ writes .0, writes .1)),
+    )
+
+pub tns-encode-spec : {M : Type 1} → statement M
+tns-encode-spec =
+    tie.close
+    (tie.spec
+    encode-requires
+    enum-known-answer
+    refused-requires
+    enum-known-answer-2
+    record-of-requires
+    accepted-requires
+    same-length
+    returns
+    same-length-2
+    returns-2)
