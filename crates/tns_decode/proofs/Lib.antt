@@ -1,4 +1,5 @@
 -- The laws that belong to no one function.
 pub mod Filters
 pub mod Checks
+pub mod Outside
 pub mod Determined
