@@ -1,99 +1,24 @@
 -- Document 01, "Band rows": lines outside the bands never change and affect nothing. The laws are of the decode call's spectrum, for every call,
--- and stand at the end; a refused call changes no line at all. Before them stand laws of one change within one band, whatever it is.
+-- and stand at the end; a refused call changes no line at all.
 -- Assumes nothing.
 use mathlib.Core.Path.{_≡_, refl, sym, _∙_, ap, subst}
-use mathlib.Core.Logic.{_⊎_, inl, inr, ⊎-elim, ⊎-swap}
-use mathlib.Core.Bool.{Bool, true, false, _&&_, _||_}
-use mathlib.Core.List.{List, [], _∷_, _++_, map}
-use Prim.Native.Nat.{ℕ, zero, suc, _+_, _-_, _≤_, _<_}
+use mathlib.Core.Logic.{⊎-swap}
+use mathlib.Core.List.{List, [], map}
+use Prim.Native.Nat.{ℕ, zero, suc, _≤_, _<_}
 use native.Mathlib.Omega.{arith}
-use lib.Dec.{leb, eqb}
-use borrow.Author.Tests.{leb-true, eqb-true}
 use lib.Ieee.{Float, nan}
-use lib.ListN.{length, getD, take, drop, length-append, length-drop, List·getD-append}
-use lib.Seq.{length-take-le, getD-append-add, getD-take, getD-drop, take-at, drop-at, ext-getD}
+use lib.ListN.{length, getD, take, drop}
 use Rattle.tns_refusals.specs.Refusals.{Verdict, accepted, refused, refusedAt, noFault, sideChecks}
 use Rattle.tns_refusals.proofs.Sides.{settle}
-use Rattle.tns_tables.specs.Rules.{every}
-use Rattle.tns_tables.proofs.Costs.{every-at}
-use Rattle.tns_tables.proofs.Outside.{and-left, and-right}
 use Rattle.tns_rows.specs.Durations.{kept, durationOf}
-use Rattle.tns_rows.specs.Bands.{rowsOf, bandFrom, rowOf, bandOf, lastStop, frameChecks, frameOf, inside, within}
-use Rattle.tns_rows.specs.declared.duration.Duration.{Duration}
-use Rattle.tns_rows.specs.declared.duration.Duration.the-variants.{Ten, SevenPointFive}
-use Rattle.tns_rows.specs.declared.row.Band.{Band}
+use Rattle.tns_rows.specs.Bands.{rowOf, bandOf, lastStop, frameChecks, frameOf, inside, within}
 use Rattle.tns_rows.specs.declared.row.Row.{Row}
 use Rattle.tns_rows.proofs.Frames.{Fits, SoundRow, sound-row, frames-settle}
+use Rattle.tns_rows.proofs.Apart.{Outside, Apart, within-length, within-outside, inside-within, inside-other, row-apart, early-outside, late-outside}
 use Rattle.tns_rows.proofs.InPlace.{through-length}
 use Rattle.tns_decode.specs.Lattice.{linesDecoded, statesAfter}
 use Rattle.tns_decode.specs.Decoder.{decoderCoefficient, bandsDecoded, rowDecoded, atRest, decodeChecks, unlessRefused, spectrumDecoded}
 use Rattle.tns_decode.proofs.Filters.{firstStates}
-
--- a place that is not in a band
-abbrev pub Outside : Band → ℕ → Type 0
-Outside band i = (i < band .start) ⊎ (band .stop ≤ i)
-
--- two bands with no line in common
-abbrev pub Apart : Band → Band → Type 0
-Apart a b = (a .stop ≤ b .start) ⊎ (b .stop ≤ a .start)
-
--- ---- one change within one band
-
-inside-length : (band : Band) (xs : List Float) → Fits band (length xs) → length (inside band xs) ≡ band .stop - band .start
-inside-length band xs fits = length-take-le _ _ (omega (arith, length-drop (band .start) xs, fits .end))
-
--- what stands at a place of a band
-inside-at : (band : Band) (xs : List Float) (j : ℕ) → j < band .stop - band .start → getD (inside band xs) j nan ≡ getD xs (band .start + j) nan
-inside-at band xs j h = getD-take _ (drop (band .start) xs) j nan h ∙ getD-drop (band .start) xs j nan
-
-module _ (band : Band) (change : List Float → List Float) (xs : List Float) (fits : Fits band (length xs))
-    (as-long : length (change (inside band xs)) ≡ length (inside band xs)) where
-  before : length (take (band .start) xs) ≡ band .start
-  before = length-take-le _ _ (omega (arith, fits .order, fits .end))
-
-  changed : length (change (inside band xs)) ≡ band .stop - band .start
-  changed = as-long ∙ inside-length band xs fits
-
-  within-length : length (within band change xs) ≡ length xs
-  within-length =
-      length-append (take (band .start) xs) _
-      ∙ omega (arith, before, changed, length-append (change (inside band xs)) (drop (band .stop) xs), length-drop (band .stop) xs, fits .order, fits .end)
-
-  within-below : (i : ℕ) → i < band .start → getD (within band change xs) i nan ≡ getD xs i nan
-  within-below i h = List·getD-append (take (band .start) xs) _ nan i (omega (arith, before)) ∙ getD-take (band .start) xs i nan h
-
-  within-past : (i : ℕ) → band .stop ≤ i → getD (within band change xs) i nan ≡ getD xs i nan
-  within-past i h =
-      let ys = change (inside band xs) in
-      let rest = drop (band .stop) xs in
-      let here : i ≡ length (take (band .start) xs) + (length ys + (i - band .stop)) = omega (arith, before, changed, fits .order) in
-      let there : band .stop + (i - band .stop) ≡ i = omega arith in
-      ap (λ (n : ℕ). getD (within band change xs) n nan) here
-      ∙ getD-append-add (take (band .start) xs) (ys ++ rest) (length ys + (i - band .stop)) nan
-      ∙ getD-append-add ys rest (i - band .stop) nan
-      ∙ getD-drop (band .stop) xs (i - band .stop) nan
-      ∙ ap (λ (n : ℕ). getD xs n nan) there
-
-  -- a place outside the band keeps its line
-  within-outside : (i : ℕ) → Outside band i → getD (within band change xs) i nan ≡ getD xs i nan
-  within-outside i o = ⊎-elim (within-below i) (within-past i) o
-
-  -- the band has the changed lines
-  inside-within : inside band (within band change xs) ≡ change (inside band xs)
-  inside-within =
-      ap (λ (l : List Float). take (band .stop - band .start) l) (drop-at (take (band .start) xs) _ (band .start) before)
-      ∙ take-at (change (inside band xs)) _ (band .stop - band .start) changed
-
-  -- a band apart from it keeps its lines
-  inside-other : (other : Band) → Fits other (length xs) → Apart other band → inside other (within band change xs) ≡ inside other xs
-  inside-other other its apart =
-      let now-fits : Fits other (length (within band change xs)) = subst (λ (n : ℕ). Fits other n) (sym within-length) its in
-      let long = inside-length other (within band change xs) now-fits in
-      ext-getD nan _ _ (long ∙ sym (inside-length other xs its)) (λ j h.
-      let h' : j < other .stop - other .start = omega (arith, long) in
-      inside-at other (within band change xs) j h'
-      ∙ within-outside (other .start + j) (⊎-elim (λ p. inl (omega arith)) (λ p. inr (omega arith)) apart)
-      ∙ sym (inside-at other xs j h'))
 
 -- ---- the counted filters in a row whose bands are apart
 
@@ -199,80 +124,6 @@ unfolding partDecoded
 same-parts row filters orders indices xs ys agree zero counted = rw (agree 0 counted)
 same-parts row filters orders indices xs ys agree (suc zero) counted = rw (agree 0 (omega arith), agree 1 counted)
 same-parts row filters orders indices xs ys agree (suc (suc k)) counted = refl
-
--- ---- the rows of both durations: one test over them all, which a row of no numbers passes too
-
--- a band of no lines, or one that starts at the duration's first line or after it
-notBefore : ℕ → Band → Bool
-notBefore firstLine band = eqb (band .stop) 0 || leb firstLine (band .start)
-
--- the two have no line in common
-apartIn : List ℕ → Bool
-apartIn row = leb (bandFrom 0 row .stop) (bandFrom 4 row .start) || leb (bandFrom 4 row .stop) (bandFrom 0 row .start)
-
--- neither band starts early, and the two are apart
-laidOut : ℕ → List ℕ → Bool
-laidOut firstLine row =
-    (notBefore firstLine (bandFrom 0 row) && notBefore firstLine (bandFrom 4 row))
-    && apartIn row
-
-all-laid-out : (d : Duration) → every (laidOut (kept d .firstLine)) (rowsOf d) ≡ true
-unfolding laidOut notBefore apartIn
-all-laid-out Ten = refl
-all-laid-out SevenPointFive = refl
-
-none-laid-out : (d : Duration) → laidOut (kept d .firstLine) [] ≡ true
-unfolding laidOut notBefore apartIn
-none-laid-out Ten = refl
-none-laid-out SevenPointFive = refl
-
-either : (a b : Bool) → a || b ≡ true → (a ≡ true) ⊎ (b ≡ true)
-either true b e = inl refl
-either false b e = inr e
-
-not-before-outside : (firstLine : ℕ) (band : Band) (i : ℕ) → notBefore firstLine band ≡ true → i < firstLine → Outside band i
-unfolding notBefore
-not-before-outside firstLine band i e h =
-    ⊎-elim (λ none. inr (omega (arith, eqb-true (band .stop) 0 none))) (λ late. inl (omega (arith, leb-true firstLine (band .start) late)))
-    (either (eqb (band .stop) 0) (leb firstLine (band .start)) e)
-
-module _ (d : Duration) (bandwidth : ℕ) where
-  numbers : List ℕ
-  numbers = getD (rowsOf d) bandwidth []
-
-  laid-out : laidOut (kept d .firstLine) numbers ≡ true
-  unfolding numbers
-  laid-out = every-at (laidOut (kept d .firstLine)) (rowsOf d) (all-laid-out d) [] (none-laid-out d) bandwidth
-
-  early-fit : (notBefore (kept d .firstLine) (bandFrom 0 numbers) ≡ true) × (notBefore (kept d .firstLine) (bandFrom 4 numbers) ≡ true)
-  unfolding laidOut
-  early-fit =
-      let first = notBefore (kept d .firstLine) (bandFrom 0 numbers) in
-      let second = notBefore (kept d .firstLine) (bandFrom 4 numbers) in
-      let both-fit = and-left (first && second) (apartIn numbers) laid-out in
-      (and-left first second both-fit, and-right first second both-fit)
-
-  row-apart : Apart (rowOf d bandwidth .first) (rowOf d bandwidth .second)
-  unfolding rowOf laidOut numbers apartIn
-  row-apart =
-      let first = bandFrom 0 numbers in
-      let second = bandFrom 4 numbers in
-      ⊎-elim (λ e. inl (leb-true _ _ e)) (λ e. inr (leb-true _ _ e))
-      (either (leb (first .stop) (second .start)) (leb (second .stop) (first .start))
-      (and-right (notBefore (kept d .firstLine) first && notBefore (kept d .firstLine) second) (apartIn numbers) laid-out))
-
-  -- no band reaches before the duration's first line
-  pub early-outside : (k i : ℕ) → i < kept d .firstLine → Outside (bandOf (rowOf d bandwidth) k) i
-  unfolding rowOf numbers
-  early-outside zero i h = not-before-outside (kept d .firstLine) (bandFrom 0 numbers) i (early-fit .0) h
-  early-outside (suc zero) i h = not-before-outside (kept d .firstLine) (bandFrom 4 numbers) i (early-fit .1) h
-  early-outside (suc (suc k)) i h = inr (omega arith)
-
-  -- nor past the row's last stop
-  pub late-outside : (k i : ℕ) → lastStop (rowOf d bandwidth) ≤ i → Outside (bandOf (rowOf d bandwidth) k) i
-  late-outside zero i h = inr (omega arith)
-  late-outside (suc zero) i h = inr (omega arith)
-  late-outside (suc (suc k)) i h = inr (omega arith)
 
 -- ---- the decode call
 

@@ -1,5 +1,6 @@
 -- The laws that belong to no one function.
 pub mod Frames
+pub mod Apart
 pub mod InPlace
 pub mod Filled
 pub mod Orders
