@@ -2,3 +2,4 @@
 pub mod Lists
 pub mod Limits
 pub mod Frames
+pub mod Outside
