@@ -3,3 +3,4 @@ pub mod Lists
 pub mod Limits
 pub mod Frames
 pub mod Outside
+pub mod Reported
