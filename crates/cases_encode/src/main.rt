@@ -8,7 +8,6 @@ use tns_encode::EncodeAnswer;
 use tns_encode::Encoded;
 use tns_encode::SideData;
 use tns_encode::encode;
-ghost use mathlib.Core.Path.{_≡_};
 ghost use Prim.Native.Nat.{_<_, _≤_};
 ghost use lib.ListN.{length};
 
