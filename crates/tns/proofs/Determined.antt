@@ -1,11 +1,13 @@
 -- Any two results that a contract allows for one input coincide: the laws of the lower crates, cited for each exported function. What
--- `tns_decode` leaves in the lines that were lent coincides too. Assumes nothing.
+-- `tns_decode` and `tns_encode` leave in the lists that were lent coincides too. Assumes nothing.
 use mathlib.Core.List.{List}
+use Prim.Native.Nat.{ℕ}
 use lib.Ieee.{Float}
-use Rattle.tns_refusals.proofs.Determined.{Determined, itself}
-use Rattle.tns_decode.proofs.Determined.{DeterminedWith}
+use Rattle.tns_refusals.proofs.Determined.{Determined, DeterminedWith, itself}
 use Rattle.tns.proofs.tns_decode.Kinds as tns-decode-kinds
 use Rattle.tns.proofs.tns_decode.Reads as tns-decode-reads
+use Rattle.tns.proofs.tns_encode.Kinds as tns-encode-kinds
+use Rattle.tns.proofs.tns_encode.Reads as tns-encode-reads
 use Rattle.tns.proofs.tns_cost.Kinds as tns-cost-kinds
 use Rattle.tns.proofs.tns_cost.Reads as tns-cost-reads
 
@@ -14,3 +16,14 @@ tns-decode κs a x y s t p q = (itself (p .0) (q .0), itself (p .1) (q .1))
 
 tns-cost : Determined 2 tns-cost-kinds.ps tns-cost-kinds.r tns-cost-reads.Post
 tns-cost κs a x y s t p q = itself p q
+
+-- the lines, the side data and the coefficients
+tns-encode-lines : DeterminedWith 3 tns-encode-kinds.ps tns-encode-kinds.r tns-encode-reads.Post (List Float) (λ κs s. s .1 .1 .1 .1 .0 .now)
+tns-encode-lines κs a x y s t p q = (itself (p .0) (q .0), itself (p .1 .0) (q .1 .0))
+
+tns-encode-side : DeterminedWith 3 tns-encode-kinds.ps tns-encode-kinds.r tns-encode-reads.Post (List ℕ) (λ κs s. s .1 .1 .1 .1 .1 .0 .now)
+tns-encode-side κs a x y s t p q = (itself (p .0) (q .0), itself (p .1 .1 .0) (q .1 .1 .0))
+
+tns-encode-coefficients :
+    DeterminedWith 3 tns-encode-kinds.ps tns-encode-kinds.r tns-encode-reads.Post (List Float) (λ κs s. s .1 .1 .1 .1 .1 .1 .0 .now)
+tns-encode-coefficients κs a x y s t p q = (itself (p .0) (q .0), itself (p .1 .1 .1) (q .1 .1 .1))

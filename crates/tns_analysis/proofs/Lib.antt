@@ -2,3 +2,4 @@
 pub mod Tab
 pub mod Adding
 pub mod Rows
+pub mod Determined

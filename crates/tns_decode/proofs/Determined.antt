@@ -2,24 +2,13 @@
 -- lines that were lent. The logic has one NaN, so of a line that is a NaN the bits are left open. Assumes nothing.
 use mathlib.Core.Path.{_≡_, refl}
 use mathlib.Core.List.{List}
-use Prim.Native.Nat.{ℕ}
 use lib.Ieee.{Float}
-use contract.Lifetimes.{Lfts}
-use denote.Triple.Clauses.{AtExit}
-use borrow.Fn.Kind.{PK, RK}
-use borrow.Fn.Kinds.{Out, Dens, resT, endedOf}
-use Rattle.tns_refusals.proofs.Determined.{Determined, coincide, itself, answerBack, refused-back}
+use Rattle.tns_refusals.proofs.Determined.{DeterminedWith, coincide, itself, answerBack, refused-back}
 use Rattle.tns_decode.specs.Decoder.{decodeSays}
 use Rattle.tns_decode.specs.declared.door.DecodeAnswer.{DecodeAnswer}
 use Rattle.tns_decode.specs.declared.door.DecodeAnswer.the-variants.{Decoded, Refused}
 use Rattle.tns_decode.proofs.door.decode.Kinds as decode-kinds
 use Rattle.tns_decode.proofs.door.decode.Reads as decode-reads
-
--- two results of a function that meet its contract for the same arguments, and what each leaves behind: `left` reads it off what is lent
-abbrev pub DeterminedWith : (n : ℕ) (ps : List (PK n)) (r : RK n) → Out n ps r → (L : Type 0) → ((κs : Lfts n) → AtExit (endedOf n ps r) κs → L) → Type 0
-DeterminedWith n ps r Post L left =
-    (κs : Lfts n) (a : Dens κs ps) (x y : resT r κs .Denot) (s t : AtExit (endedOf n ps r) κs) → Post κs a x s → Post κs a y t
-    → (x ≡ y) × (left κs s ≡ left κs t)
 
 decodeBack : (answer : DecodeAnswer) → answerBack (λ (u : Unit {0}). Decoded) Refused (decodeSays answer) ≡ answer
 decodeBack Decoded = refl

@@ -4,3 +4,4 @@ pub mod Limits
 pub mod Frames
 pub mod Outside
 pub mod Reported
+pub mod Determined

@@ -52,10 +52,10 @@ module _ (b : Band) (xs ys : List Float) (long : length xs ≡ length ys) (cut :
   same-autocorrelation : autocorrelation b xs ≡ autocorrelation b ys
   unfolding autocorrelation
   same-autocorrelation =
-      rw
-      ( same-part (b .start) (b .«first_cut») (omega arith) (omega (arith, cut .lowest)) (omega (arith, cut .middle, cut .highest))
-      , same-part (b .«first_cut») (b .«second_cut») (omega (arith, cut .lowest)) (omega (arith, cut .middle)) (omega (arith, cut .highest))
-      , same-part (b .«second_cut») (b .stop) (omega (arith, cut .lowest, cut .middle)) (omega (arith, cut .highest)) (omega arith)
+      rw (
+        same-part (b .start) (b .«first_cut») (omega arith) (omega (arith, cut .lowest)) (omega (arith, cut .middle, cut .highest)),
+        same-part (b .«first_cut») (b .«second_cut») (omega (arith, cut .lowest)) (omega (arith, cut .middle)) (omega (arith, cut .highest)),
+        same-part (b .«second_cut») (b .stop) (omega (arith, cut .lowest, cut .middle)) (omega (arith, cut .highest)) (omega arith),
       )
 
   pub same-filter : (flag : Bool) (weighting : ℕ) → filterOf b xs flag weighting ≡ filterOf b ys flag weighting
@@ -197,10 +197,10 @@ module _ (duration bandwidth nbits : ℕ) (flag : Bool) where
 
     same-second : Roomy row (length xs) → secondOf row xs flag weighting ≡ secondOf row ys flag weighting
     unfolding secondOf
-    same-second room = elim (ℕ-discrete (row .second .stop) 0)
-        [ yes none ↦ rw (eq-eqb (row .second .stop) 0 none)
-        | no some ↦ rw (ne-eqb (row .second .stop) 0 some) (same-filter (row .second) xs ys long (room .second-cut some) second flag weighting)
-        ]
+    same-second room = elim (ℕ-discrete (row .second .stop) 0) [
+      | yes none ↦ rw (eq-eqb (row .second .stop) 0 none)
+      | no some ↦ rw (ne-eqb (row .second .stop) 0 some) (same-filter (row .second) xs ys long (room .second-cut some) second flag weighting)
+    ]
 
     same-side : Roomy row (length xs) → sideOf row xs flag weighting ≡ sideOf row ys flag weighting
     unfolding sideOf
@@ -214,12 +214,12 @@ module _ (duration bandwidth nbits : ℕ) (flag : Bool) where
         let apart = row-apart (durationOf duration) bandwidth in
         let a = filterOf (row .first) ys flag weighting in
         let b = secondOf row ys flag weighting in
-        rw (same-first room, same-second room)
-        ( first-inside row a b xs sx apart ∙ ap (linesEncoded (a .coefficients) (a .order) atRest) first ∙ sym (first-inside row a b ys sy apart)
-        , second-inside row a b xs sx apart
-          ∙ ap (λ (l : List Float). linesEncoded (b .coefficients) (b .order) (statesAfter (a .coefficients) (a .order) atRest l) (inside (row .second) xs)) first
-          ∙ ap (linesEncoded (b .coefficients) (b .order) (statesAfter (a .coefficients) (a .order) atRest (inside (row .first) ys))) second
-          ∙ sym (second-inside row a b ys sy apart)
+        rw (same-first room, same-second room) (
+          first-inside row a b xs sx apart ∙ ap (linesEncoded (a .coefficients) (a .order) atRest) first ∙ sym (first-inside row a b ys sy apart),
+          second-inside row a b xs sx apart
+              ∙ ap (λ (l : List Float). linesEncoded (b .coefficients) (b .order) (statesAfter (a .coefficients) (a .order) atRest l) (inside (row .second) xs)) first
+              ∙ ap (linesEncoded (b .coefficients) (b .order) (statesAfter (a .coefficients) (a .order) atRest (inside (row .first) ys))) second
+              ∙ sym (second-inside row a b ys sy apart),
         )
 
     pub same-verdict : encodeVerdict duration bandwidth nbits flag xs ≡ encodeVerdict duration bandwidth nbits flag ys

@@ -66,12 +66,12 @@ module _ (row : Row) (lines : List Float) (flag : Bool) (weighting : ℕ) where
       let b = secondOf row lines flag weighting in
       let p = filter-within (row .first) lines flag weighting in
       let q = second-within row lines flag weighting in
-      record
-      { two-orders = refl;
+      record {
+        two-orders = refl;
         sixteen-indices = omega (arith, length-append (a .indices) (b .indices), p .eight-indices, q .eight-indices);
         count-at-most-2 = one-or-two (hasSecond row);
         orders-at-most-8 = none-found 8 0 (a .order ∷ b .order ∷ []) (p .order-at-most-8, (q .order-at-most-8, tt));
-        indices-at-most-16 = none-found 16 0 (a .indices ++ b .indices) (append-at-most 16 (a .indices) (b .indices) (filter-indices (row .first) lines flag weighting) (second-indices row lines flag weighting))
+        indices-at-most-16 = none-found 16 0 (a .indices ++ b .indices) (append-at-most 16 (a .indices) (b .indices) (filter-indices (row .first) lines flag weighting) (second-indices row lines flag weighting));
       }
     where
       one-or-two : (two : Bool) → cond two 2 1 ≤ 2

@@ -34,6 +34,16 @@ abbrev pub Determined : (n : ℕ) (ps : List (PK n)) (r : RK n) → Out n ps r �
 Determined n ps r Post =
     (κs : Lfts n) (a : Dens κs ps) (x y : resT r κs .Denot) (s t : AtExit (endedOf n ps r) κs) → Post κs a x s → Post κs a y t → x ≡ y
 
+-- two such results, and what each leaves behind: `left` reads it off what was lent
+abbrev pub DeterminedWith : (n : ℕ) (ps : List (PK n)) (r : RK n) → Out n ps r → (L : Type 0) → ((κs : Lfts n) → AtExit (endedOf n ps r) κs → L) → Type 0
+DeterminedWith n ps r Post L left =
+    (κs : Lfts n) (a : Dens κs ps) (x y : resT r κs .Denot) (s t : AtExit (endedOf n ps r) κs) → Post κs a x s → Post κs a y t
+    → (x ≡ y) × (left κs s ≡ left κs t)
+
+-- what is made of two parts, where the parts coincide
+pub of-parts : {A B C : Type 0} (f : A → B → C) {x y : A} {u v : B} → x ≡ y → u ≡ v → f x u ≡ f y v
+of-parts f {x} {y} {u} {v} p q = ap (λ a. f a u) p ∙ ap (f y) q
+
 -- ---- a result that says itself
 
 pub itself : {A : Type 0} {x y v : A} → x ≡ v → y ≡ v → x ≡ y

@@ -1,0 +1,15 @@
+-- Any two results that a contract allows for one input coincide: the law of `tns_refusals`, cited for `analyse`. The logic has one NaN, so of a
+-- gain or a coefficient that is a NaN the bits are left open. Assumes nothing.
+use mathlib.Core.List.{List}
+use lib.Ieee.{Float}
+use Rattle.tns_refusals.proofs.Determined.{Determined, of-parts, itself}
+use Rattle.tns_analysis.specs.declared.gain.FilterGain.{FilterGain}
+use Rattle.tns_analysis.specs.declared.filter.Analysed.{Analysed}
+use Rattle.tns_analysis.proofs.filter.analyse.Kinds as analyse-kinds
+use Rattle.tns_analysis.proofs.filter.analyse.Reads as analyse-reads
+
+abbrev analysed : FilterGain → List Float → Analysed
+analysed gain reflections = record { gain = gain; reflections = reflections }
+
+analyse : Determined 1 analyse-kinds.ps analyse-kinds.r analyse-reads.Post
+analyse κs a x y s t p q = of-parts analysed (itself (p .0) (q .0)) (itself (p .1) (q .1))
