@@ -41,6 +41,8 @@ mod rows;
 mod rule;
 mod same;
 mod spectra;
+#[cfg(feature = "lc3")]
+mod speed;
 mod strange;
 mod tables;
 
@@ -65,6 +67,8 @@ fn main() -> ExitCode {
         "encode" => encode::run(),
         #[cfg(feature = "lc3")]
         "lc3" => lc3::run(),
+        #[cfg(feature = "lc3")]
+        "speed" => speed::run(),
         _ => {
             eprintln!("oracle: no such word");
             return ExitCode::from(2);

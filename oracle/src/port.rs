@@ -55,6 +55,11 @@ impl Lent {
         &self.cells[GUARDS..self.cells.len() - GUARDS]
     }
 
+    /// Other lines, as many as before.
+    pub fn refill(&mut self, lines: &[f32]) {
+        self.lend().copy_from_slice(lines);
+    }
+
     fn lend(&mut self) -> &mut [f32] {
         let end = self.cells.len() - GUARDS;
         &mut self.cells[GUARDS..end]

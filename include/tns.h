@@ -1,0 +1,57 @@
+/* LC3 temporal noise shaping: the three functions of libtns.a (x86-64), made by `rt staticlib tns`.
+ *
+ * Every call is answered, whatever numbers and list lengths are passed. A refused call writes nothing
+ * anywhere. What is asked of the caller is what C cannot check: a pointer is good for its length
+ * (and not null, also at length 0) and aligned for its type, and no two lists of a call overlap.
+ * Calls share nothing, so threads may call side by side. docs/CONTRACTS.md has the promises.
+ */
+#ifndef TNS_H
+#define TNS_H
+
+#include <stdbool.h>
+#include <stddef.h>
+#include <stdint.h>
+
+#ifdef __cplusplus
+extern "C" {
+#endif
+
+/* Why a call was refused: the first of these that applies, by number. */
+enum {
+    TNS_ACCEPTED = 0,
+    TNS_DURATION = 1,        /* neither 0 (10 ms) nor 1 (7.5 ms) */
+    TNS_BANDWIDTH = 2,       /* over 4 */
+    TNS_SPECTRUM_LENGTH = 3, /* ends before the row's last band, or longer than 400 or 300 lines */
+    TNS_LIST_LENGTH = 4,     /* not two orders, or not sixteen indices */
+    TNS_FILTER_COUNT = 5,    /* over 2 */
+    TNS_ORDER = 6,           /* an order over 8: place 0 or 1 */
+    TNS_INDEX = 7,           /* an index over 16: place 0 to 15 */
+    TNS_WEIGHTING = 8        /* over 1 */
+};
+
+typedef struct {
+    uint16_t refusal; /* 0: accepted */
+    uint16_t place;   /* of refusals 6 and 7: the lowest bad place; else 0 */
+    uint16_t found;   /* of refusals 6 and 7: the number found there; else 0 */
+    uint16_t bits;    /* of an accepted encode or cost; else 0 */
+} tns_answer;
+
+/* Analyses and filters a spectrum in place. Refusals 1 to 3. Writes the side data (weighting, filter
+ * count, two orders, sixteen indices) and the sixteen coefficients that the indices stand for. */
+tns_answer tns_encode(uint8_t duration, uint8_t bandwidth, uint64_t bits, bool near_nyquist,
+                      float *lines, size_t lines_len, uint8_t side[20], float coefficients[16]);
+
+/* Decodes a spectrum in place. Refusals 1 to 7. */
+tns_answer tns_decode(uint8_t duration, uint8_t bandwidth, uint8_t filters, const uint8_t *orders,
+                      size_t orders_len, const uint8_t *indices, size_t indices_len, float *lines,
+                      size_t lines_len);
+
+/* The bits of side data. Refusals 4 to 8. */
+tns_answer tns_cost(uint8_t weighting, uint8_t filters, const uint8_t *orders, size_t orders_len,
+                    const uint8_t *indices, size_t indices_len);
+
+#ifdef __cplusplus
+}
+#endif
+
+#endif
