@@ -1,0 +1,32 @@
+//! Links libtns.a. The variable TNS_ARCHIVE can name it by its full path; without it the archive is
+//! the repository's, which is proved and built first if it is missing.
+
+use std::path::{Path, PathBuf};
+use std::process::Command;
+
+fn main() {
+    println!("cargo:rerun-if-changed=build.rs");
+    println!("cargo:rerun-if-env-changed=TNS_ARCHIVE");
+    let archive = std::env::var_os("TNS_ARCHIVE").map_or_else(of_repository, PathBuf::from);
+    println!("cargo:rerun-if-changed={}", archive.display());
+    let folder = archive.parent().unwrap_or(Path::new("."));
+    println!("cargo:rustc-link-search=native={}", folder.display());
+    println!("cargo:rustc-link-lib=static=tns");
+}
+
+fn of_repository() -> PathBuf {
+    let here = std::env::var_os("CARGO_MANIFEST_DIR").expect("cargo sets it");
+    let root = Path::new(&here).join("..");
+    let archive = root.join("target/staticlib/libtns.a");
+    if !archive.exists() {
+        let made = Command::new("rt")
+            .args(["staticlib", "tns"])
+            .current_dir(&root)
+            .status();
+        assert!(
+            made.is_ok_and(|status| status.success()),
+            "`rt staticlib tns` did not make libtns.a"
+        );
+    }
+    archive
+}

@@ -1,0 +1,87 @@
+//! Why a call was refused.
+
+use core::fmt;
+
+/// Why a call was refused. Where several reasons hold, the one with the lowest number is given, and of
+/// several bad places the lowest.
+#[derive(Clone, Copy, Debug, PartialEq, Eq)]
+pub enum Refusal {
+    /// 1: the duration is neither 10 ms nor 7.5 ms.
+    Duration,
+    /// 2: the bandwidth is over 4.
+    Bandwidth,
+    /// 3: the spectrum ends before the last band does, or is longer than the longest.
+    SpectrumLength,
+    /// 4: there are not two orders, or not sixteen indices.
+    ListLength,
+    /// 5: there are more than two filters.
+    FilterCount,
+    /// 6: an order is over 8.
+    Order {
+        /// Which of the orders, from 0.
+        place: u16,
+        /// The order that stands there.
+        found: u16,
+    },
+    /// 7: an index is over 16.
+    Index {
+        /// Which of the indices, from 0.
+        place: u16,
+        /// The index that stands there.
+        found: u16,
+    },
+    /// 8: the weighting is over 1.
+    Weighting,
+}
+
+impl Refusal {
+    /// The refusal's number.
+    pub fn number(self) -> u16 {
+        match self {
+            Refusal::Duration => 1,
+            Refusal::Bandwidth => 2,
+            Refusal::SpectrumLength => 3,
+            Refusal::ListLength => 4,
+            Refusal::FilterCount => 5,
+            Refusal::Order { .. } => 6,
+            Refusal::Index { .. } => 7,
+            Refusal::Weighting => 8,
+        }
+    }
+
+    /// The library's numbers; 0 is an accepted call, and there is none above 8.
+    pub(crate) fn of(number: u16, place: u16, found: u16) -> Option<Self> {
+        match number {
+            0 => None,
+            1 => Some(Refusal::Duration),
+            2 => Some(Refusal::Bandwidth),
+            3 => Some(Refusal::SpectrumLength),
+            4 => Some(Refusal::ListLength),
+            5 => Some(Refusal::FilterCount),
+            6 => Some(Refusal::Order { place, found }),
+            7 => Some(Refusal::Index { place, found }),
+            _ => Some(Refusal::Weighting),
+        }
+    }
+}
+
+impl fmt::Display for Refusal {
+    fn fmt(&self, f: &mut fmt::Formatter<'_>) -> fmt::Result {
+        match self {
+            Refusal::Duration => f.write_str("the duration is neither 10 ms nor 7.5 ms"),
+            Refusal::Bandwidth => f.write_str("the bandwidth is over 4"),
+            Refusal::SpectrumLength => f.write_str("the spectrum is too short or too long"),
+            Refusal::ListLength => f.write_str("there are not two orders and sixteen indices"),
+            Refusal::FilterCount => f.write_str("there are more than two filters"),
+            Refusal::Order { place, found } => {
+                write!(f, "order {found} at place {place} is over 8")
+            }
+            Refusal::Index { place, found } => {
+                write!(f, "index {found} at place {place} is over 16")
+            }
+            Refusal::Weighting => f.write_str("the weighting is over 1"),
+        }
+    }
+}
+
+impl core::error::Error for Refusal {}
