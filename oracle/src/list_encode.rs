@@ -1,10 +1,10 @@
 //! Part of the word `lists`: crates/replay_encode/stdin, whole encoder calls
 //! with E's answers. E and document 01 differ by intent on 10 ms bandwidth 2
-//! with a filter on, and at coefficients of exactly 1 or -1; such calls are left
-//! out.
+//! with a filter on, where lines 200 to 239 are those of E's lattice run on, and
+//! at coefficients of exactly 1 or -1; such calls are left out.
 
 use crate::builds::Build;
-use crate::encode_call::{offered, Call, Outcome};
+use crate::encode_call::{offered, Call, How, Outcome};
 use crate::encode_draw::{draw, ACTIVE, GAIN_DAMPED, GAIN_ON, KINDS, SILENCE, THRESHOLD};
 use crate::encode_steer::is_threshold;
 use crate::lists::{patterns, write};
@@ -26,7 +26,6 @@ impl Search<'_> {
     /// Draws until E's answer passes the test, and keeps that call.
     fn find(&mut self, row: usize, kinds: &[usize], test: impl Fn(&Call, &Outcome) -> bool) {
         let lengths = offered(&ROWS[row]);
-        let wide = (ROWS[row].duration, ROWS[row].bandwidth) == (0, 2);
         for _ in 0..PATIENCE {
             let random = &mut self.random;
             let kind = kinds[random.below(kinds.len())];
@@ -36,11 +35,10 @@ impl Search<'_> {
                 let mut call = call.clone();
                 // The list has room for 32 bits.
                 call.bits = call.bits.min(u64::from(u32::MAX));
-                let Some(outcome) = call.ask(self.build) else {
+                let Some(outcome) = listed(&call, self.build) else {
                     return;
                 };
-                let agrees = !wide || outcome.side.orders[0] == 0;
-                if taken.is_none() && agrees && test(&call, &outcome) {
+                if taken.is_none() && test(&call, &outcome) {
                     taken = Some((call, outcome));
                 }
             });
@@ -104,6 +102,12 @@ impl Search<'_> {
     }
 }
 
+/// E's answer as the list has it, or nothing where the list has none.
+fn listed(call: &Call, build: &Build) -> Option<Outcome> {
+    let (outcome, how) = call.wanted(build, call.ask(build))?;
+    (how != How::AtOne).then_some(outcome)
+}
+
 fn record(call: &Call, outcome: &Outcome) -> Vec<u8> {
     let row = call.row();
     let mut bytes = vec![row.duration, row.bandwidth, u8::from(call.near_nyquist)];
@@ -130,15 +134,9 @@ pub fn run(builds: &[Build; 2], root: &Path) -> bool {
         found: Vec::new(),
         failed: 0,
     };
-    for (n, row) in ROWS.iter().enumerate() {
-        search.find(n, &[SILENCE], |_, _| true);
-        if (row.duration, row.bandwidth) == (0, 2) {
-            for _ in 0..3 {
-                search.find(n, &ACTIVE, |_, _| true);
-            }
-        } else {
-            search.every_order(n);
-        }
+    for row in 0..ROWS.len() {
+        search.find(row, &[SILENCE], |_, _| true);
+        search.every_order(row);
     }
     search.every_kind();
     search.limits();
@@ -147,7 +145,7 @@ pub fn run(builds: &[Build; 2], root: &Path) -> bool {
     for (call, outcome) in &search.found {
         bytes.extend(record(call, outcome));
         active += usize::from(outcome.side.orders != [0, 0]);
-        let other = call.ask(&builds[1]);
+        let other = listed(call, &builds[1]);
         differ += usize::from(other.is_none_or(|other| outcome.difference(&other).is_some()));
     }
     println!(

@@ -152,7 +152,7 @@ fn encoded_spectra_across_threads() {
         .map(|_| std::thread::spawn(encoded_spectra_of_the_list))
         .collect();
     for thread in threads {
-        assert_eq!(thread.join().unwrap(), 159);
+        assert_eq!(thread.join().unwrap(), 168);
     }
 }
 
