@@ -26,4 +26,4 @@ tns-encode-side κs a x y s t p q = (itself (p .0) (q .0), itself (p .1 .1 .0) (
 
 tns-encode-coefficients :
     DeterminedWith 3 tns-encode-kinds.ps tns-encode-kinds.r tns-encode-reads.Post (List Float) (λ κs s. s .1 .1 .1 .1 .1 .1 .0 .now)
-tns-encode-coefficients κs a x y s t p q = (itself (p .0) (q .0), itself (p .1 .1 .1) (q .1 .1 .1))
+tns-encode-coefficients κs a x y s t p q = (itself (p .0) (q .0), itself (p .1 .1 .1 .0) (q .1 .1 .1 .0))

@@ -15,7 +15,10 @@ ghost use lib.ListN.{length};
 ghost use Rattle.tns_refusals.specs.Refusals.{placeIn, says};
 ghost use Rattle.tns_tables.specs.Cost.{costOf};
 ghost use Rattle.tns_decode.specs.Decoder.{decodeChecks, spectrumDecoded};
-ghost use Rattle.tns_encode.specs.Encoder.{encodeVerdict, bitsIn, spectrumEncoded};
+ghost use Rattle.tns_rows.specs.Durations.{durationOf};
+ghost use Rattle.tns_rows.specs.Bands.{rowOf};
+ghost use Rattle.tns_encode.specs.Encoder.{encodeVerdict, bitsIn, sideIn, spectrumEncoded};
+ghost use Rattle.tns_encode.specs.Exact.{IfAccepted, NearExact};
 ghost use Rattle.tns.specs.Answers.{told, accepts, noBits, itsBits};
 ghost use Rattle.tns.specs.Sides.{recordOf, recordAfter, coefficientsAfter};
 
@@ -121,6 +124,7 @@ pub extern "C" fn tns_encode(
     ensures { λ _. ⌜ now (lines .exit) ≡ spectrumEncoded duration bandwidth bits flag (now (lines .entry)) ⌝ }
     ensures { λ _. ⌜ now (side .exit) ≡ recordAfter (encodeVerdict duration bandwidth bits flag (now (lines .entry))) (now (side .entry)) ⌝ }
     ensures { λ _. ⌜ now (coefficients .exit) ≡ coefficientsAfter (encodeVerdict duration bandwidth bits flag (now (lines .entry))) (now (coefficients .entry)) ⌝ }
+    ensures { λ _. ⌜ IfAccepted (encodeVerdict duration bandwidth bits flag (now (lines .entry))) (NearExact (rowOf (durationOf duration) bandwidth) (sideIn (encodeVerdict duration bandwidth bits flag (now (lines .entry)))) (now (lines .entry)) (now (lines .exit))) ⌝ }
 {
     let encoded = encode(duration, bandwidth, bits, flag, lines);
     let answer = encoded.answer;

@@ -22,5 +22,5 @@ encodeBack (Refused why) = refused-back Bits Refused why
 encode : DeterminedWith 1 encode-kinds.ps encode-kinds.r encode-reads.Post (List Float) (λ κs s. s .1 .1 .1 .1 .0 .now)
 encode κs a x y s t p q = (
   of-parts encoded (coincide encodeSays (answerBack Bits Refused) encodeBack (p .0) (q .0)) (itself (p .1 .0) (q .1 .0)),
-  itself (p .1 .1) (q .1 .1),
+  itself (p .1 .1 .0) (q .1 .1 .0),
 )

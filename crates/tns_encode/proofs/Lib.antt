@@ -4,4 +4,6 @@ pub mod Limits
 pub mod Frames
 pub mod Outside
 pub mod Reported
+pub mod NearLattice
+pub mod NearFrames
 pub mod Determined

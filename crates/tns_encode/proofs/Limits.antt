@@ -41,7 +41,7 @@ quantized-within r l =
       eight-coefficients = length-map (map indexOf r) coefficientOf ∙ length-map r indexOf ∙ l;
     }
 
-absent-within : Within8 absent
+pub absent-within : Within8 absent
 unfolding absent
 absent-within = record { order-at-most-8 = omega arith; eight-indices = refl; eight-coefficients = refl }
 

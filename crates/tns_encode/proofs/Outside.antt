@@ -108,14 +108,14 @@ module _ (row : Row) (a b : Quantized) (xs : List Float) (sound : SoundRow row (
       ∙ within-outside (row .first) firstChange xs (sound .first-fits) first-long i o
 
   module _ (apart : Apart (row .first) (row .second)) where
-    first-inside : inside (row .first) (twoEncoded row a b xs) ≡ linesEncoded (a .coefficients) (a .order) atRest (inside (row .first) xs)
+    pub first-inside : inside (row .first) (twoEncoded row a b xs) ≡ linesEncoded (a .coefficients) (a .order) atRest (inside (row .first) xs)
     unfolding one firstChange
     first-inside =
         ap (inside (row .first)) both-are
         ∙ inside-other (row .second) secondChange one second-fits-one second-long (row .first) (subst (λ (n : ℕ). Fits (row .first) n) (sym one-length) (sound .first-fits)) apart
         ∙ inside-within (row .first) firstChange xs (sound .first-fits) first-long
 
-    second-inside : inside (row .second) (twoEncoded row a b xs)
+    pub second-inside : inside (row .second) (twoEncoded row a b xs)
         ≡ linesEncoded (b .coefficients) (b .order) (statesAfter (a .coefficients) (a .order) atRest (inside (row .first) xs)) (inside (row .second) xs)
     unfolding one secondChange
     second-inside =

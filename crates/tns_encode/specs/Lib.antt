@@ -2,4 +2,5 @@
 pub mod Quantized
 pub mod Lattice
 pub mod Encoder
+pub mod Exact
 pub mod Steps

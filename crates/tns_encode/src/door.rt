@@ -18,11 +18,13 @@ ghost use mathlib.Core.List.{_++_, _∷_, []};
 ghost use Prim.Native.Nat.{_≤_};
 ghost use lib.ListN.{length};
 ghost use Rattle.tns_refusals.specs.Refusals.{accepted, says};
-ghost use Rattle.tns_rows.specs.Bands.{inside, within};
+ghost use Rattle.tns_rows.specs.Durations.{durationOf};
+ghost use Rattle.tns_rows.specs.Bands.{inside, within, rowOf};
 ghost use Rattle.tns_rows.proofs.Frames.{Fits, SoundRow};
 ghost use Rattle.tns_tables.specs.Cost.{countedBits};
 ghost use Rattle.tns_encode.specs.Lattice.{linesEncoded, statesAfter};
 ghost use Rattle.tns_encode.specs.Encoder.{filterOf, secondOf, sideWith, sideOf, bitsOf, twoEncoded, rowEncoded, encodeVerdict, bitsIn, sideIn, noSide, encodeSays, spectrumEncoded};
+ghost use Rattle.tns_encode.specs.Exact.{IfAccepted, NearExact};
 ghost use Rattle.tns_analysis.specs.Steps.{CutWithin};
 ghost use Rattle.tns_encode.specs.Steps.{Within8, Roomy, countOf};
 
@@ -266,6 +268,7 @@ pub fn encode(duration: u8, bandwidth: u8, nbits: u64, flag: bool, lines: &mut [
     ensures { λ r. ⌜ encodeSays (r .answer) ≡ bitsIn (encodeVerdict duration bandwidth nbits flag (now (lines .entry))) ⌝ }
     ensures { λ r. ⌜ r .side ≡ sideIn (encodeVerdict duration bandwidth nbits flag (now (lines .entry))) ⌝ }
     ensures { λ _. ⌜ now (lines .exit) ≡ spectrumEncoded duration bandwidth nbits flag (now (lines .entry)) ⌝ }
+    ensures { λ r. ⌜ IfAccepted (encodeSays (r .answer)) (NearExact (rowOf (durationOf duration) bandwidth) (r .side) (now (lines .entry)) (now (lines .exit))) ⌝ }
 {
     let frame = check_frame(duration, bandwidth, lines.len());
     match frame {

@@ -6,6 +6,7 @@ use mathlib.Core.Logic.{_⊎_, inl, inr, ⊎-elim}
 use mathlib.Core.Bool.{Bool, true, false, _&&_, _||_}
 use mathlib.Core.List.{List, [], _∷_, _++_}
 use Prim.Native.Nat.{ℕ, zero, suc, _+_, _-_, _≤_, _<_}
+use native.Mathlib.Nat.{lt-of-not-le, lt-irrefl}
 use native.Mathlib.Omega.{arith}
 use lib.Dec.{leb, eqb}
 use borrow.Author.Tests.{leb-true, eqb-true}
@@ -26,6 +27,9 @@ use Rattle.tns_rows.proofs.Frames.{Fits}
 -- a place that is not in a band
 abbrev pub Outside : Band → ℕ → Type 0
 Outside band i = (i < band .start) ⊎ (band .stop ≤ i)
+
+not-outside : (band : Band) (i : ℕ) → band .start ≤ i → i < band .stop → Outside band i → ⊥
+not-outside band i from to = ⊎-elim (λ before. lt-irrefl i (omega arith)) (λ after. lt-irrefl i (omega arith))
 
 -- two bands with no line in common
 abbrev pub Apart : Band → Band → Type 0
@@ -115,6 +119,20 @@ unfolding laidOut notBefore apartIn
 none-laid-out Ten = refl
 none-laid-out SevenPointFive = refl
 
+-- the first band starts no later than the duration's first line
+startsBy : ℕ → List ℕ → Bool
+startsBy firstLine row = leb (bandFrom 0 row .start) firstLine
+
+all-start-by : (d : Duration) → every (startsBy (kept d .firstLine)) (rowsOf d) ≡ true
+unfolding startsBy
+all-start-by Ten = refl
+all-start-by SevenPointFive = refl
+
+none-start-by : (d : Duration) → startsBy (kept d .firstLine) [] ≡ true
+unfolding startsBy
+none-start-by Ten = refl
+none-start-by SevenPointFive = refl
+
 either : (a b : Bool) → a || b ≡ true → (a ≡ true) ⊎ (b ≡ true)
 either true b e = inl refl
 either false b e = inr e
@@ -162,3 +180,15 @@ module _ (d : Duration) (bandwidth : ℕ) where
   late-outside zero i h = inr (omega arith)
   late-outside (suc zero) i h = inr (omega arith)
   late-outside (suc (suc k)) i h = inr (omega arith)
+
+  first-by : rowOf d bandwidth .first .start ≤ kept d .firstLine
+  unfolding rowOf startsBy
+  first-by = leb-true _ _ (every-at (startsBy (kept d .firstLine)) (rowsOf d) (all-start-by d) [] (none-start-by d) bandwidth)
+
+  -- so a line of either band lies from the first band's start to the last band's end
+  pub in-row : (k i : ℕ) → bandOf (rowOf d bandwidth) k .start ≤ i → i < bandOf (rowOf d bandwidth) k .stop
+      → (rowOf d bandwidth .first .start ≤ i) × (i < lastStop (rowOf d bandwidth))
+  in-row k i from to =
+      let band = bandOf (rowOf d bandwidth) k in
+      let late : kept d .firstLine < suc i = lt-of-not-le (λ (early : suc i ≤ kept d .firstLine). not-outside band i from to (early-outside k i early)) in
+      (omega (arith, late, first-by), lt-of-not-le (λ (past : lastStop (rowOf d bandwidth) ≤ i). not-outside band i from to (late-outside k i past)))

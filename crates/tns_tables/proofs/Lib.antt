@@ -2,4 +2,5 @@
 pub mod Outside
 pub mod Indices
 pub mod Costs
+pub mod Factors
 pub mod Determined

@@ -3,8 +3,15 @@
 use mathlib.Core.Path.{_≡_, refl, sym, _∙_, ap, subst}
 use Prim.Native.Nat.{ℕ, _≤_}
 use borrow.Author.Needs.{needs}
-use Rattle.tns_refusals.specs.Refusals.{Verdict, accepted, placeIn, says}
-use Rattle.tns_encode.specs.Encoder.{encodeVerdict, bitsIn, encodeSays}
+use mathlib.Core.List.{List}
+use lib.Ieee.{Float}
+use Rattle.tns_refusals.specs.Refusals.{Verdict, accepted, refused, refusedAt, placeIn, says}
+use Rattle.tns_rows.specs.Durations.{durationOf}
+use Rattle.tns_rows.specs.Bands.{rowOf}
+use Rattle.tns_rows.specs.declared.row.Row.{Row}
+use Rattle.tns_encode.specs.Encoder.{encodeVerdict, bitsIn, sideIn, encodeSays}
+use Rattle.tns_encode.specs.Exact.{IfAccepted, NearExact}
+use Rattle.tns_encode.specs.declared.door.SideData.{SideData}
 use Rattle.tns.specs.Answers.{told, noBits, itsBits}
 use Rattle.tns.specs.declared.Answer.{Answer}
 use Rattle.tns.proofs.Places.{encode-place}
@@ -23,6 +30,16 @@ costs : (c : tie.After-answer2) →
     let g = c .before .before .before .before .before .before .before .args in
     accepted (c .answer2 .given .0 .0) ≡ bitsIn (encodeVerdict (g .duration) (g .bandwidth) (g .bits) (g .flag) (g .lines .now))
 costs c = sym (ap encodeSays (c .answer2 .given .1)) ∙ c .before .before .before .before .encode .ensures .0
+
+-- what the door promises of an accepted call, in the verdict's words
+near-of : (row : Row) (v : Verdict SideData) (said : Verdict ℕ) (side : SideData) (before after : List Float) → said ≡ bitsIn v → side ≡ sideIn v
+    → IfAccepted said (NearExact row side before after) → IfAccepted v (NearExact row (sideIn v) before after)
+near-of row v said side before after e f near = of-verdict v (subst (λ (s : SideData). IfAccepted (bitsIn v) (NearExact row s before after)) f (subst (λ (w : Verdict ℕ). IfAccepted w (NearExact row side before after)) e near))
+  where
+    of-verdict : (v : Verdict SideData) → IfAccepted (bitsIn v) (NearExact row (sideIn v) before after) → IfAccepted v (NearExact row (sideIn v) before after)
+    of-verdict (accepted side) near = near
+    of-verdict (refused number) near = tt
+    of-verdict (refusedAt number place found) near = tt
 
 encode-requires : tie.Need-encode-requires
 encode-requires c κs = search needs
@@ -56,9 +73,12 @@ returns c =
     let encoded = answered .before .before .before .before in
     let g = encoded .before .before .before .args in
     let why = answered .answer .given .0 .0 in
-    let writes = refused-writes (encodeVerdict (g .duration) (g .bandwidth) (g .bits) (g .flag) (g .lines .now)) why (said answered) (g .side .now) (g .coefficients .now) in (
+    let v = encodeVerdict (g .duration) (g .bandwidth) (g .bits) (g .flag) (g .lines .now) in
+    let row = rowOf (durationOf (g .duration)) (g .bandwidth) in
+    let door = encoded .encode .ensures in
+    let writes = refused-writes v why (said answered) (g .side .now) (g .coefficients .now) in (
       c .refused .ensures ∙ refused-told noBits itsBits why ∙ ap (told itsBits) (said answered),
-      (encoded .encode .ensures .1 .1, (writes .0, writes .1)),
+      (door .1 .1 .0, (writes .0, (writes .1, near-of row v _ (encoded .encode .result .side) (g .lines .now) _ (door .0) (door .1 .0) (door .1 .1 .1)))),
     )
 
 same-length-2 : tie.Need-same-length-2
@@ -71,9 +91,11 @@ returns-2 c =
     let encoded = answered .before .before .before .before in
     let g = encoded .before .before .before .args in
     let v = encodeVerdict (g .duration) (g .bandwidth) (g .bits) (g .flag) (g .lines .now) in
-    let writes = accepted-writes v (answered .answer2 .given .0 .0) (encoded .encode .result .side) (costs answered) (encoded .encode .ensures .1 .0) (g .side .now) (g .coefficients .now) in (
+    let row = rowOf (durationOf (g .duration)) (g .bandwidth) in
+    let door = encoded .encode .ensures in
+    let writes = accepted-writes v (answered .answer2 .given .0 .0) (encoded .encode .result .side) (costs answered) (door .1 .0) (g .side .now) (g .coefficients .now) in (
       c .accepted .ensures ∙ ap (told itsBits) (costs answered),
-      (encoded .encode .ensures .1 .1, (recorded .record-of .ensures ∙ writes .0, writes .1)),
+      (door .1 .1 .0, (recorded .record-of .ensures ∙ writes .0, (writes .1, near-of row v _ (encoded .encode .result .side) (g .lines .now) _ (door .0) (door .1 .0) (door .1 .1 .1)))),
     )
 
 pub tns-encode-spec : {M : Type 1} → statement M
