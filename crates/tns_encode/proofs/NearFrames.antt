@@ -5,7 +5,7 @@ use mathlib.Core.Bool.{Bool, true, false, cond}
 use mathlib.Core.List.{List, [], _∷_, _++_, map}
 use Prim.Native.Nat.{ℕ, zero, suc, _+_, _-_, _*_, _^_, _≤_, _<_}
 use native.Mathlib.Omega.{arith}
-use borrow.Author.Tests.{le-ltb}
+use borrow.Author.Tests.{le-ltb, lt-ltb}
 use lib.Dec.{T, leb, leb→le}
 use lib.ListN.{length, getD, take, drop, replicate, length-map, List·getD-map}
 use lib.Seq.{take-at, drop-at}
@@ -28,7 +28,7 @@ use Rattle.tns_rows.proofs.Apart.{Apart, inside-length, inside-at, row-apart, i
 use Rattle.tns_encode.specs.Quantized.{quantizedOf, absent}
 use Rattle.tns_encode.specs.Lattice.{linesEncoded, statesAfter}
 use Rattle.tns_encode.specs.Encoder.{atRest, hasSecond, filterOf, secondOf, sideWith, sideOf, twoEncoded, rowEncoded}
-use Rattle.tns_encode.specs.Exact.{exactRest, linesIn, firstCoefficients, secondCoefficients, firstExact, exactCarried, secondExact, LinesAtMost, EachNear, BandsNear, NearExact}
+use Rattle.tns_encode.specs.Exact.{exactRest, linesIn, firstCoefficients, secondCoefficients, firstExact, exactCarried, secondExact, nearness, LinesAtMost, EachNear, BandsNear, InRange, NearExact}
 use Rattle.tns_encode.specs.Steps.{Within8}
 use Rattle.tns_encode.specs.declared.quantize.Quantized.{Quantized}
 use Rattle.tns_encode.specs.declared.door.SideData.{SideData}
@@ -38,27 +38,39 @@ use Rattle.tns_encode.proofs.NearLattice.{Reading, Factors, Held, at-re
 
 -- ---- m, told as h = m + 126
 
-reading : (m : ℤ) → negℤ (pos 126) ≤ℤ m → m ≤ℤ pos 119 → Reading m
-reading (pos a) low high =
-    let l : a ≤ 119 = leb→le a 119 (high .le) in
-    let e : a + 149 ≡ a + 126 + 23 = omega arith in
-    let f : a + 344 ≡ a + 126 + 218 = omega arith in
+abbrev lowest : ℤ
+lowest = negℤ (pos 126)
+
+nearness-shifts : (x y : ℤ) → nearness (x +ℤ y) ≡ x +ℤ nearness y
+nearness-shifts x y = +ℤ-assoc x y _
+
+from-lowest : (m : ℤ) (h : ℕ) → m ≡ pos h +ℤ lowest → h ≤ 245 → Reading m
+from-lowest m h e small =
     record {
-      h = a + 126;
-      small = omega arith;
-      entering = ap (λ (n : ℕ). 2 ^ n) e;
-      leaving = ap (λ (z : ℤ). 2 ^ natAbs z) (+ℤ-assoc (pos a) (negℤ (pos 13)) (pos 357)) ∙ ap (λ (n : ℕ). 2 ^ n) f;
+      h = h;
+      small = small;
+      entering = rw e (ap (λ (z : ℤ). 2 ^ natAbs z) (+ℤ-assoc (pos h) lowest (pos 149)));
+      leaving =
+          rw e
+          (ap (λ (z : ℤ). powerInUnits 357 z) (nearness-shifts (pos h) lowest) ∙ ap (λ (z : ℤ). 2 ^ natAbs z) (+ℤ-assoc (pos h) (nearness lowest) (pos 357)));
     }
-reading (negsuc a) low high =
-    let l : a ≤ 125 = leb→le a 125 (low .le) in
-    let e : 149 - suc a ≡ 125 - a + 23 = omega arith in
-    let f : 344 - suc a ≡ 125 - a + 218 = omega arith in
-    record {
-      h = 125 - a;
-      small = omega arith;
-      entering = rw (le-ltb 149 (suc a) (omega arith)) (ap (λ (n : ℕ). 2 ^ n) e);
-      leaving = ap (λ (z : ℤ). 2 ^ natAbs z) (+ℤ-assoc (negsuc a) (negℤ (pos 13)) (pos 357)) ∙ rw (le-ltb 344 (suc a) (omega arith)) (ap (λ (n : ℕ). 2 ^ n) f);
-    }
+
+not-above : (a b : ℕ) → pos a ≤ℤ pos b → a ≤ b
+not-above a b h = leb→le a b (h .le)
+
+not-below : (a b : ℕ) → negsuc a ≤ℤ negsuc b → b ≤ a
+not-below a b h = leb→le b a (h .le)
+
+reading : (m : ℤ) → InRange m → Reading m
+reading (pos a) range = from-lowest (pos a) (a + 126) (rw (le-ltb (a + 126) 126 (omega arith)) (ap pos (back a))) (omega (arith, not-above a _ (range .1)))
+  where
+    back : (a : ℕ) → a ≡ a + 126 - 126
+    back a = omega arith
+reading (negsuc a) range =
+    from-lowest (negsuc a) (125 - a) (rw (lt-ltb (125 - a) 126 (omega arith)) (ap negsuc (back a (omega (arith, not-below _ a (range .0)))))) (omega arith)
+  where
+    back : (a : ℕ) → a ≤ 125 → a ≡ 126 - suc (125 - a)
+    back a h = omega arith
 
 -- ---- filters whose coefficients are their indices'
 
@@ -146,7 +158,7 @@ module _ (d : Duration) (bandwidth weighting filters : ℕ) (a b : Quantized) (t
         }
 
   pub filters-near : NearExact row side xs (twoEncoded row a b xs)
-  filters-near m low high small = bands-near m (reading m low high) small
+  filters-near m range small = bands-near m (reading m range) small
 
 -- ---- the filters that the encoder finds
 

@@ -13,7 +13,7 @@ use lib.Dec.{T, lit<}
 use lib.Pow.{pow-add, pow-mono}
 use lib.ListN.{length, getD, set, length-set, replicate, getD-replicate, List·getD-map}
 use lib.Seq.{getD-set-same, getD-set-other}
-use lib.IntN.{ℤ, pos, _+ℤ_, _-ℤ_, _*ℤ_}
+use lib.IntN.{ℤ, pos, _+ℤ_, _*ℤ_}
 use lib.Ieee.{Float, nan, fin, binary32, add, mul, fits, ofBits}
 use Rattle.tns_rounding.specs.Units.{inUnits, powerInUnits, signed, AtMost, WithinOf}
 use Rattle.tns_rounding.proofs.Pairs.{Pair}
@@ -24,7 +24,7 @@ use Rattle.tns_tables.specs.Quantizer.{plusZero}
 use Rattle.tns_rows.specs.Lines.{linesThrough, stateThrough}
 use Rattle.tns_encode.specs.Lattice.{stage, stagesTo, entering, lineEncoded, linesEncoded, statesAfter}
 use Rattle.tns_encode.specs.Encoder.{atRest}
-use Rattle.tns_encode.specs.Exact.{finer, ExactPassing, ExactPassed, exactStage, exactStagesTo, exactEntering, lineExact, linesExact, statesExact, exactRest, EachNear}
+use Rattle.tns_encode.specs.Exact.{finer, ExactPassing, ExactPassed, exactStage, exactStagesTo, exactEntering, lineExact, linesExact, statesExact, exactRest, nearness, EachNear}
 use Rattle.tns_encode.specs.declared.lattice.Passing.{Passing}
 use Rattle.tns_encode.specs.declared.lattice.Passed.{Passed}
 
@@ -165,10 +165,10 @@ module _ (h : ℕ) (small : h ≤ 245) (q : List Float) (fs : Factors q) where
 no-lines : (m : ℤ) → EachNear m [] []
 no-lines m = record { as-many = refl; each = λ j l. absurd (not-suc-le-zero l) }
 
-one-line-more : (m : ℤ) (y : Float) (ys : List Float) (Y : ℤ) (YS : List ℤ) → WithinOf 357 (m -ℤ pos 13) y Y → EachNear m ys YS → EachNear m (y ∷ ys) (Y ∷ YS)
+one-line-more : (m : ℤ) (y : Float) (ys : List Float) (Y : ℤ) (YS : List ℤ) → WithinOf 357 (nearness m) y Y → EachNear m ys YS → EachNear m (y ∷ ys) (Y ∷ YS)
 one-line-more m y ys Y YS w near = record { as-many = ap suc (near .as-many); each = at }
   where
-    at : (j : ℕ) → j < length (y ∷ ys) → WithinOf 357 (m -ℤ pos 13) (getD (y ∷ ys) j nan) (getD (Y ∷ YS) j (pos 0))
+    at : (j : ℕ) → j < length (y ∷ ys) → WithinOf 357 (nearness m) (getD (y ∷ ys) j nan) (getD (Y ∷ YS) j (pos 0))
     at zero l = w
     at (suc j) l = near .each j (le-of-suc-le-suc l)
 
@@ -177,7 +177,7 @@ pub record Reading (m : ℤ) : Type 0 where
   pub h : ℕ
   pub small : h ≤ 245
   pub entering : powerInUnits 149 m ≡ 2 ^ (h + 23)
-  pub leaving : powerInUnits 357 (m -ℤ pos 13) ≡ 2 ^ (h + 218)
+  pub leaving : powerInUnits 357 (nearness m) ≡ 2 ^ (h + 218)
 
 module _ (m : ℤ) (r : Reading m) where
   abbrev h : ℕ
@@ -192,14 +192,14 @@ module _ (m : ℤ) (r : Reading m) where
       none : (z : ℕ) → 0 * z ≡ 0
       none z = omega arith
 
-  line-leaves : (order : ℕ) → order ≤ 8 → (x : Float) (X : ℤ) → At h order x X → WithinOf 357 (m -ℤ pos 13) x (X *ℤ pos (2 ^ (26 * (8 - order))))
+  line-leaves : (order : ℕ) → order ≤ 8 → (x : Float) (X : ℤ) → At h order x X → WithinOf 357 (nearness m) x (X *ℤ pos (2 ^ (26 * (8 - order))))
   line-leaves k l x X at =
       let rest = 2 ^ (26 * (8 - k)) in
       let units : fine k * rest ≡ 2 ^ 208 = sym (pow-add 2 (26 * k) (26 * (8 - k))) ∙ ap (λ (z : ℕ). 2 ^ z) (all k l) in
-      let most : off h k * rest ≤ powerInUnits 357 (m -ℤ pos 13) * 2 =
+      let most : off h k * rest ≤ powerInUnits 357 (nearness m) * 2 =
       rw (r .leaving, pow-add 2 h 218) (in-bound k (2 ^ k) (2 ^ h) (fine k) rest (2 ^ 208) (2 ^ 218) units refl (mul-le-mul l (pow-mono l)))
       in
-      leaves x X (k + (h + 23)) (fine k) (off h k) rest 357 (m -ℤ pos 13) (omega arith) units most at
+      leaves x X (k + (h + 23)) (fine k) (off h k) rest 357 (nearness m) (omega arith) units most at
     where
       all : (k : ℕ) → k ≤ 8 → 26 * k + 26 * (8 - k) ≡ 208
       all k l = omega arith

@@ -100,10 +100,14 @@ secondExact row side lines = linesExact (secondCoefficients side) (getD (side .o
 abbrev pub LinesAtMost : ℤ → Row → List Float → Type 0
 LinesAtMost m row lines = (j : ℕ) → row .first .start ≤ j → j < lastStop row → AtMost m (getD lines j nan)
 
+-- 2^(m-13), by its exponent
+abbrev pub nearness : ℤ → ℤ
+nearness m = m -ℤ pos 13
+
 -- each line of a band is finite and within 2^(m-13) of its exact line
 pub record EachNear (m : ℤ) (lines : List Float) (exact : List ℤ) : Type 0 where
   pub as-many : length lines ≡ length exact
-  pub each : (j : ℕ) → j < length lines → WithinOf 357 (m -ℤ pos 13) (getD lines j nan) (getD exact j (pos 0))
+  pub each : (j : ℕ) → j < length lines → WithinOf 357 (nearness m) (getD lines j nan) (getD exact j (pos 0))
 
 -- each line of both bands
 pub record BandsNear (m : ℤ) (row : Row) (side : SideData) (before after : List Float) : Type 0 where
@@ -111,8 +115,11 @@ pub record BandsNear (m : ℤ) (row : Row) (side : SideData) (before after : Lis
   pub second : EachNear m (inside (row .second) after) (secondExact row side before)
 
 -- for whole m from -126 to 119
+abbrev pub InRange : ℤ → Type 0
+InRange m = (negℤ (pos 126) ≤ℤ m) × (m ≤ℤ pos 119)
+
 abbrev pub NearExact : Row → SideData → List Float → List Float → Type 0
-NearExact row side before after = (m : ℤ) → negℤ (pos 126) ≤ℤ m → m ≤ℤ pos 119 → LinesAtMost m row before → BandsNear m row side before after
+NearExact row side before after = (m : ℤ) → InRange m → LinesAtMost m row before → BandsNear m row side before after
 
 -- of an accepted call
 abbrev pub IfAccepted : {A : Type 0} → Verdict A → Type 0 → Type 0

@@ -3,4 +3,5 @@ pub mod Quantized
 pub mod Lattice
 pub mod Encoder
 pub mod Exact
+mod Worked
 pub mod Steps
