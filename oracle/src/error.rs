@@ -12,7 +12,7 @@ use crate::random::SEED;
 use crate::rows::Row;
 use crate::rule;
 use crate::same::{first_change, first_difference};
-use crate::{error_cases, error_direct, error_drawn, error_hard, error_search};
+use crate::{error_cases, error_climb, error_direct, error_drawn, error_hard, error_search};
 use std::path::Path;
 
 const SPAN: usize = (MOST - LEAST + 1) as usize;
@@ -193,9 +193,13 @@ impl Family {
         Some(measured)
     }
 
+    fn active(&self) -> u64 {
+        self.at.iter().map(|at| at.active).sum()
+    }
+
     fn print(&self) -> bool {
         let name = self.name;
-        let active: u64 = self.at.iter().map(|at| at.active).sum();
+        let active = self.active();
         println!(
             "error: {name}: {} frames, {active} with a filter on; left out: {} with a line in the bands that is not finite, {} with one beyond 2^{MOST}, {} refused; {} break the bound",
             self.frames, self.not_finite, self.too_large, self.refused, self.broken
@@ -242,19 +246,37 @@ impl Family {
     }
 }
 
+fn print_all(what: &str, families: &[Family]) {
+    let frames: u64 = families.iter().map(|family| family.frames).sum();
+    let active: u64 = families.iter().map(Family::active).sum();
+    let broken: u64 = families.iter().map(|family| family.broken).sum();
+    let part = families
+        .iter()
+        .filter_map(|family| family.best.as_ref())
+        .fold(0.0f64, |most, (best, _)| most.max(best.part));
+    println!(
+        "error: {what}: {frames} frames, {active} with a filter on, {broken} break the bound, largest part {part:.4}"
+    );
+}
+
 pub fn run(root: &Path) -> bool {
     println!("error: random numbers: xorshift 13 7 17, seed {SEED:016X}");
     println!("error: m is the least whole number, not below {LEAST}, with all lines from the first band's start to the last band's end at most 2^m in size; a part is a frame's largest distance from the exact lattice divided by 2^(m-13)");
     let [build, _] = both();
-    let mut families = Vec::new();
-    families.push(error_drawn::run(&build));
-    families.push(error_hard::run());
-    families.push(error_direct::run(&build));
-    families.extend(error_search::run(&build));
+    let families = [
+        error_drawn::run(&build),
+        error_hard::run(),
+        error_climb::run(&build),
+        error_direct::run(&build),
+        error_search::run(&build),
+    ];
     let mut good = true;
     for family in &families {
         good &= family.print();
     }
+    let (encoder, lattice) = families.split_at(3);
+    print_all("through the encoder (drawn, hard, encoder search)", encoder);
+    print_all("the lattice alone (direct, search)", lattice);
     println!("error: largest part for each m, with the number of frames that have a filter on; - where none has");
     for n in 0..SPAN {
         let cells: Vec<String> = families.iter().map(|family| family.cell(n)).collect();

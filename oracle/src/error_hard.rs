@@ -75,7 +75,7 @@ fn leaning(random: &mut Random, band: &mut [f32]) {
     }
 }
 
-/// Nine lines of size 1 or little less: of one sign, alternating, or any.
+/// Lines of size 1 or little less: of one sign, alternating, or any.
 fn loud(random: &mut Random, lines: &mut [f32]) {
     let signs = random.below(3);
     let rough = two(between(random, -24, -3)) * random.below(2) as f32;

@@ -33,6 +33,8 @@ mod error;
 #[cfg(feature = "error")]
 mod error_cases;
 #[cfg(feature = "error")]
+mod error_climb;
+#[cfg(feature = "error")]
 mod error_direct;
 #[cfg(feature = "error")]
 mod error_drawn;
