@@ -2,13 +2,13 @@
 //! by the harness's f32 lattice and its exact lattice, to be worked again there
 //! with Python's whole numbers. One case a line, in words parted by spaces.
 
+use crate::big::Big;
 use crate::builds::Build;
 use crate::error_direct::{coefficients, indices, CHOICES};
 use crate::exact;
 use crate::random::{Random, SEED};
 use crate::rule;
 use crate::spectra::{between, two};
-use std::fmt::Write;
 use std::path::Path;
 
 const CASES: usize = 300;
@@ -38,26 +38,14 @@ fn case(random: &mut Random, table: &[f32; 17]) -> String {
     let mut after = before.clone();
     rule::encoder_lattice(&bands, &orders, &coefficients, &mut after);
     let exact = exact::lattice(&bands, &orders, &coefficients, &before);
-    let mut text = format!("{} {}", orders[0], orders[1]);
-    let mut floats = |list: &[f32]| {
-        for x in list {
-            // Writing into a string does not fail.
-            let _ = write!(text, " {:x}", x.to_bits());
-        }
-    };
-    floats(&coefficients);
-    let _ = write!(text, " {} {}", lengths[0], lengths[1]);
-    let mut floats = |list: &[f32]| {
-        for x in list {
-            let _ = write!(text, " {:x}", x.to_bits());
-        }
-    };
-    floats(&before);
-    floats(&after);
-    for x in exact.iter().flatten() {
-        let _ = write!(text, " {}", x.hex());
-    }
-    text
+    let number = |n: &usize| format!("{n}");
+    let pattern = |x: &f32| format!("{:x}", x.to_bits());
+    let mut words: Vec<String> = orders.iter().map(number).collect();
+    words.extend(coefficients.iter().map(pattern));
+    words.extend(lengths.iter().map(number));
+    words.extend(before.iter().chain(&after).map(pattern));
+    words.extend(exact.iter().flatten().map(Big::hex));
+    words.join(" ")
 }
 
 /// Writes the cases where `run` looks for them.
