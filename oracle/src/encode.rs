@@ -7,7 +7,7 @@ use crate::answer::{Answer, ACCEPTED};
 use crate::builds::{both, Build};
 use crate::cost::Frame;
 use crate::encode_call::{offered, Call, How, Outcome};
-use crate::encode_draw::{self, draw, ACTIVE, GAIN_DAMPED, GAIN_ON, KINDS, THRESHOLD};
+use crate::encode_draw::{self, draw, draw_any, GAIN_DAMPED, GAIN_ON, KINDS, THRESHOLD};
 use crate::port::{self, Lent, Room};
 use crate::random::{Random, SEED};
 use crate::rows::ROWS;
@@ -284,18 +284,7 @@ fn systematic(tally: &mut Tally, build: &Build, random: &mut Random) {
 
 fn at_random(tally: &mut Tally, build: &Build, random: &mut Random) {
     for n in 0..DRAWS {
-        let place = n % ROWS.len();
-        let row = &ROWS[place];
-        let kind = match random.below(2) {
-            0 => ACTIVE[random.below(ACTIVE.len())],
-            _ => random.below(KINDS),
-        };
-        let lengths = offered(row);
-        let length = match random.below(8) {
-            0 => row.last_stop() + random.below(row.longest() - row.last_stop() + 1),
-            _ => lengths[random.below(lengths.len())],
-        };
-        draw(random, build, place, kind, length, |call| tally.take(call));
+        draw_any(random, build, n % ROWS.len(), |call| tally.take(call));
     }
 }
 

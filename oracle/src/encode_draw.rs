@@ -3,7 +3,7 @@
 //! energies, and that are steered to a limit of the analysis (`encode_steer`).
 
 use crate::builds::Build;
-use crate::encode_call::{bit_number, Call};
+use crate::encode_call::{bit_number, offered, Call};
 use crate::encode_steer::{near_gain, near_one, near_threshold};
 use crate::random::Random;
 use crate::rows::{Row, ROWS};
@@ -196,4 +196,20 @@ pub fn draw(
             with(&call);
         }
     }
+}
+
+/// Draws a call of any kind, more often one that turns a filter on, and of any
+/// length that the row accepts, more often one that E's configuration offers.
+pub fn draw_any(random: &mut Random, build: &Build, place: usize, with: impl FnMut(&Call)) {
+    let row = &ROWS[place];
+    let kind = match random.below(2) {
+        0 => ACTIVE[random.below(ACTIVE.len())],
+        _ => random.below(KINDS),
+    };
+    let lengths = offered(row);
+    let length = match random.below(8) {
+        0 => row.last_stop() + random.below(row.longest() - row.last_stop() + 1),
+        _ => lengths[random.below(lengths.len())],
+    };
+    draw(random, build, place, kind, length, with);
 }

@@ -3,11 +3,13 @@
 //! repository's folder. The words that call the port are features; a build
 //! without all of them leaves shared parts unused.
 #![cfg_attr(
-    not(all(feature = "decode", feature = "encode", feature = "lc3")),
+    not(all(feature = "decode", feature = "error", feature = "lc3")),
     allow(dead_code)
 )]
 
 mod answer;
+#[cfg(feature = "error")]
+mod big;
 mod builds;
 mod caught;
 mod compare;
@@ -26,6 +28,22 @@ mod encode_draw;
 #[cfg(feature = "encode")]
 mod encode_refusals;
 mod encode_steer;
+#[cfg(feature = "error")]
+mod error;
+#[cfg(feature = "error")]
+mod error_cases;
+#[cfg(feature = "error")]
+mod error_climb;
+#[cfg(feature = "error")]
+mod error_direct;
+#[cfg(feature = "error")]
+mod error_drawn;
+#[cfg(feature = "error")]
+mod error_hard;
+#[cfg(feature = "error")]
+mod error_search;
+#[cfg(feature = "error")]
+mod exact;
 #[cfg(feature = "lc3")]
 mod lc3;
 #[cfg(feature = "lc3")]
@@ -65,6 +83,8 @@ fn main() -> ExitCode {
         "decode" => decode::run(),
         #[cfg(feature = "encode")]
         "encode" => encode::run(),
+        #[cfg(feature = "error")]
+        "error" => error::run(&root),
         #[cfg(feature = "lc3")]
         "lc3" => lc3::run(),
         #[cfg(feature = "lc3")]
