@@ -3,38 +3,54 @@
 01's exact lattice, in whole numbers alone. It shares nothing with the port or
 the harness, and rounds each f32 operation by itself.
 
-    oracle/example_error.py          prints the worked example
+    oracle/example_error.py          works the example that the checker works
     oracle/example_error.py FILE     works the harness's cases again and compares
 
+The example is one call of crates/replay_encode/stdin, where the Rust's side data
+and filtered lines stand beside the entering lines. Its numbers must be those of
+crates/tns_encode/specs/Worked.antt.
+
 Assumes finite lines that stay finite, coefficients that are whole numbers of
-2^-26, and Python 3 with its standard library. The seventeen coefficients are
-read from crates/tns_tables/specs/Quantizer.antt.
+2^-26, and Python 3 with its standard library.
 """
 
 import pathlib
 import re
+import struct
 import sys
 
 ROOT = pathlib.Path(__file__).resolve().parent.parent
-TABLE = ROOT / "crates/tns_tables/specs/Quantizer.antt"
+LIST = ROOT / "crates/replay_encode/stdin"
+WORKED = ROOT / "crates/tns_encode/specs/Worked.antt"
 
-# The example: for each filter the indices of its coefficients, and its lines.
-EXAMPLE = [
-    ([9, 0, 11], [0x3DCCCCCD, 0xBB727BB3, 0x41480000, 0xBEAAAAAA]),
-    ([14, 3], [0x40490FDB, 0xC02DF854, 0x3EAAAAAB]),
-]
+# The call: its duration, bandwidth and bits, its bands, and the lines that are
+# shown of each: at the seam, and at the end.
+CALL = (1, 3, 2953)
+BANDS = [(9, 120), (120, 240)]
+SHOWN = [range(117, 123), range(237, 240)]
 
 SIGN = 1 << 31
 
 
-def table():
-    """The seventeen coefficients' patterns, by index."""
-    text = TABLE.read_text(encoding="utf-8")
-    part = text.split("coefficientPatterns =")[1].split("[]")[0]
-    patterns = [int(word, 16) for word in re.findall(r"0x[0-9a-f]{8}", part)]
-    if len(patterns) != 17:
-        sys.exit(f"example: {TABLE.name} has {len(patterns)} coefficients")
-    return patterns
+def calls():
+    """The list's calls: what was asked, the lines, the side data, the
+    coefficients and the lines afterwards, as patterns."""
+    data = LIST.read_bytes()
+    at = 0
+
+    def take(form):
+        nonlocal at
+        values = struct.unpack_from("<" + form, data, at)
+        at += struct.calcsize("<" + form)
+        return values
+
+    while at < len(data):
+        duration, bandwidth, _, bits, length = take("BBBIH")
+        before = take(f"{length}I")
+        take("H")
+        side = take("20B")
+        coefficients = take("16I")
+        yield (duration, bandwidth, bits), before, side, coefficients, take(f"{length}I")
 
 
 def units(pattern):
@@ -131,31 +147,47 @@ def decimal(number, below, places):
     return f"{sign}{digits // 10**places}.{digits % 10**places:0{places}d}"
 
 
+def whole(number):
+    """A whole number as the definitions write it."""
+    return f"pos {number}" if number >= 0 else f"negsuc {-number - 1}"
+
+
 def example():
-    patterns = table()
-    filters = [([patterns[i] for i in indices], lines) for indices, lines in EXAMPLE]
-    lines = [line for _, part in filters for line in part]
-    m = least_m(lines)
+    """Returns whether the f32 lines are the Rust's and Worked.antt has these
+    numbers."""
+    found = [call for call in calls() if call[0] == CALL]
+    if len(found) != 1:
+        sys.exit(f"example: {len(found)} such calls in the list")
+    _, before, side, coefficients, after = found[0]
+    filters = [
+        (coefficients[8 * f : 8 * f + side[2 + f]], before[start:stop])
+        for f, (start, stop) in enumerate(BANDS)
+    ]
+    first, last = BANDS[0][0], BANDS[-1][1]
+    m = least_m(before[first:last])
     bound = 1 << (m - 13 + 357)
-    print(f"example: m {m}; bound 2^{m - 13} = {bound} of 2^-357")
-    results = zip(floats(filters), exacts(filters))
-    for f, (indices, part) in enumerate(EXAMPLE):
-        print(f"example: filter {f}: order {len(indices)}")
-        for k, index in enumerate(indices):
-            q = patterns[index]
-            print(
-                f"example: filter {f}: coefficient {k}: index {index}, "
-                f"f32 0x{q:08x}, {units(q) >> 123} of 2^-26"
-            )
-        for n, line in enumerate(part):
-            filtered, exact = next(results)
-            away = (units(filtered) << 208) - exact
-            name = f"example: filter {f}, line {n}:"
-            print(f"{name} before: f32 0x{line:08x}, {units(line)} of 2^-149")
-            print(f"{name} filtered: f32 0x{filtered:08x}, {units(filtered)} of 2^-149")
-            print(f"{name} exact: {exact} of 2^-357")
-            print(f"{name} filtered less exact: {away} of 2^-357")
-            print(f"{name} part of the bound: {decimal(away, bound, 12)}")
+    filtered, exact = floats(filters), exacts(filters)
+    away = [(units(f) << 208) - e for f, e in zip(filtered, exact)]
+    print(f"example: orders {side[2]} and {side[3]}, m {m}, lines {first} to {last - 1}")
+    for place in (place for part in SHOWN for place in part):
+        name = f"example: line {place}:"
+        print(f"{name} filtered 0x{filtered[place - first]:08x}")
+        print(f"{name} exact {exact[place - first]} of 2^-357")
+        print(f"{name} apart by {decimal(away[place - first], bound, 9)} of 2^{m - 13}")
+    differ = sum(number != 0 for number in away)
+    largest = decimal(max(map(abs, away)), bound, 9)
+    print(f"example: {differ} of {last - first} lines differ, by at most {largest} of 2^{m - 13}")
+    wrong = sum(f != a for f, a in zip(filtered, after[first:last]))
+    print(f"example: {wrong} lines are not the Rust's")
+    text = WORKED.read_text(encoding="utf-8")
+    wanted = [f"0x{p:08x}" for p in before]
+    wanted += [f"0x{filtered[p - first]:08x}" for part in SHOWN for p in part]
+    wanted += [whole(exact[p - first]) for part in SHOWN for p in part]
+    written = re.findall(r"0x[0-9a-f]{8}|pos \d{20,}|negsuc \d{20,}", text)
+    patterns = [f"0x{p:08x}" for p in coefficients]
+    same = written == wanted[: len(before)] + patterns + wanted[len(before) :]
+    print(f"example: {WORKED.name} has these numbers: {'yes' if same else 'no'}")
+    return wrong == 0 and same
 
 
 def compare(path):
@@ -189,4 +221,4 @@ if __name__ == "__main__":
         sys.exit(0 if compare(sys.argv[1]) else 1)
     if len(sys.argv) != 1:
         sys.exit("usage: example_error.py [FILE]")
-    example()
+    sys.exit(0 if example() else 1)
