@@ -9,6 +9,8 @@
 
 mod answer;
 mod builds;
+#[cfg(feature = "lc3")]
+mod callgrind;
 mod caught;
 mod compare;
 mod cost;
@@ -68,7 +70,9 @@ fn main() -> ExitCode {
         #[cfg(feature = "lc3")]
         "lc3" => lc3::run(),
         #[cfg(feature = "lc3")]
-        "speed" => speed::run(),
+        "speed" => speed::run(speed::Mode::Times),
+        #[cfg(feature = "lc3")]
+        "counts" => speed::run(speed::Mode::Counts),
         _ => {
             eprintln!("oracle: no such word");
             return ExitCode::from(2);
