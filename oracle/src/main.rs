@@ -70,9 +70,9 @@ fn main() -> ExitCode {
         #[cfg(feature = "lc3")]
         "lc3" => lc3::run(),
         #[cfg(feature = "lc3")]
-        "speed" => speed::run(speed::Mode::Times),
+        "speed" => speed::times(),
         #[cfg(feature = "lc3")]
-        "counts" => speed::run(speed::Mode::Counts),
+        "counts" => speed::counts(),
         _ => {
             eprintln!("oracle: no such word");
             return ExitCode::from(2);

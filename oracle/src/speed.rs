@@ -6,8 +6,8 @@
 //! (feature "lc3").
 //!
 //! A line of `speed` has fields between tabs: encode or decode, duration code,
-//! bandwidth, what is run, what was met, then the ns a call of the port, of the
-//! Rust and of liblc3. A label of `counts` has the first four and then whose
+//! bandwidth, what is run, the orders met, then the ns a call of the port, of
+//! the Rust and of liblc3. A label of `counts` has the first four and then whose
 //! call it is and how often it was made.
 
 use crate::answer::ACCEPTED;
@@ -25,15 +25,12 @@ use std::time::Instant;
 
 /// So many that a row's lines, before and after, stay in the first-level cache.
 const FRAMES: usize = 12;
-const ROUNDS: usize = 2000;
+/// The whole list is gone through so often, since what disturbs the machine may
+/// last longer than one measurement.
+const PASSES: usize = 8;
+const ROUNDS: usize = 250;
 /// Far above the weighting limits; a whole number of bytes for liblc3.
 const BITS: u64 = 1600;
-
-#[derive(Clone, Copy, PartialEq)]
-pub enum Mode {
-    Times,
-    Counts,
-}
 
 /// The lines of a frame at a round address, as a codec's own buffer has them.
 #[derive(Clone)]
@@ -45,6 +42,37 @@ struct Frames {
     fresh: Vec<Lines>,
     used: Vec<Lines>,
     length: usize,
+}
+
+/// The least times met so far: what is measured, then the orders met and four
+/// times, the first of a call that does nothing.
+#[derive(Default)]
+struct Least(Vec<(String, String, [f64; 4])>);
+
+impl Least {
+    fn keep(&mut self, name: &str, met: &str, times: [f64; 4]) {
+        match self.0.iter_mut().find(|entry| entry.0 == name) {
+            Some(entry) => {
+                for (least, time) in entry.2.iter_mut().zip(times) {
+                    *least = least.min(time);
+                }
+            }
+            None => self.0.push((name.to_string(), met.to_string(), times)),
+        }
+    }
+
+    fn print(&self) {
+        for (name, met, [nothing, port, original, lc3]) in &self.0 {
+            let [port, original, lc3] = [port, original, lc3].map(|t| t - nothing);
+            println!("{name}\t{met}\t{port:.1}\t{original:.1}\t{lc3:.1}");
+        }
+    }
+}
+
+/// Where measurements go: to callgrind, or to the least times.
+enum Sink {
+    Counts,
+    Times(Least),
 }
 
 impl Frames {
@@ -88,7 +116,7 @@ impl Frames {
 /// The three calls by turns, so that what disturbs the machine disturbs all of
 /// them alike, and beside them a call that does nothing, which is taken off.
 fn measure(
-    mode: Mode,
+    sink: &mut Sink,
     name: &str,
     met: &str,
     frames: &mut Frames,
@@ -99,13 +127,13 @@ fn measure(
     let mut nothing = |lines: &mut [f32]| {
         black_box(lines);
     };
-    if mode == Mode::Counts {
+    let Sink::Times(times) = sink else {
         frames.count(&format!("{name}\tnothing\t{FRAMES}"), &mut nothing);
         frames.count(&format!("{name}\tport\t{FRAMES}"), &mut port);
         frames.count(&format!("{name}\tRust\t{FRAMES}"), &mut original);
         frames.count(&format!("{name}\tliblc3\t{FRAMES}"), &mut lc3);
         return;
-    }
+    };
     let mut least = [f64::INFINITY; 4];
     for _ in 0..ROUNDS {
         least[0] = least[0].min(frames.time(&mut nothing));
@@ -113,8 +141,7 @@ fn measure(
         least[2] = least[2].min(frames.time(&mut original));
         least[3] = least[3].min(frames.time(&mut lc3));
     }
-    let [port, original, lc3] = [1, 2, 3].map(|n| least[n] - least[0]);
-    println!("{name}\t{met}\t{port:.1}\t{original:.1}\t{lc3:.1}");
+    times.keep(name, met, least);
 }
 
 /// Frames whose bands all get a filter, and the same one from all three.
@@ -147,7 +174,7 @@ fn second_opinion(first: &Frame, second: &Frame) -> Frame {
     opinion
 }
 
-fn encode(mode: Mode, row: &Row, build: &Build, what: &str, flag: bool, frames: Vec<Lines>) {
+fn encode(sink: &mut Sink, row: &Row, build: &Build, what: &str, flag: bool, frames: Vec<Lines>) {
     let (d, w) = (row.duration, row.bandwidth);
     let mut frames = Frames::new(frames, row);
     let (mut side, mut coefficients) = ([0; 20], [0.0; 16]);
@@ -165,7 +192,7 @@ fn encode(mode: Mode, row: &Row, build: &Build, what: &str, flag: bool, frames: 
     met.sort_unstable();
     met.dedup();
     measure(
-        mode,
+        sink,
         &format!("encode\t{d}\t{w}\t{what}"),
         &met.join(" "),
         &mut frames,
@@ -189,7 +216,7 @@ fn encode(mode: Mode, row: &Row, build: &Build, what: &str, flag: bool, frames: 
     );
 }
 
-fn decode(mode: Mode, row: &Row, order: usize, build: &Build, random: &mut Random) {
+fn decode(sink: &mut Sink, row: &Row, order: usize, build: &Build, random: &mut Random) {
     let (d, w) = (row.duration, row.bandwidth);
     let drawn = (0..FRAMES).map(|_| {
         let mut lines = Lines([0.0; 400]);
@@ -208,7 +235,7 @@ fn decode(mode: Mode, row: &Row, order: usize, build: &Build, random: &mut Rando
     let answer = port::decode_lines(d, w, filters, &orders, &indices, lines);
     assert_eq!(answer, ACCEPTED, "the port refuses a frame of the bench");
     measure(
-        mode,
+        sink,
         &format!("decode\t{d}\t{w}\torder {order}"),
         &order.to_string(),
         &mut frames,
@@ -226,23 +253,38 @@ fn decode(mode: Mode, row: &Row, order: usize, build: &Build, random: &mut Rando
     );
 }
 
-pub fn run(mode: Mode) -> bool {
-    let [build, _] = both();
+/// Every measurement once, on the same frames each time.
+fn pass(sink: &mut Sink, build: &Build) {
     let mut random = Random(SEED);
-    if mode == Mode::Times {
-        println!("the best of {ROUNDS} rounds of {FRAMES} frames");
-    }
     for row in &ROWS {
-        let frames = active(&mut random, row, &build);
+        let frames = active(&mut random, row, build);
         let silence = vec![Lines([0.0; 400]); FRAMES];
-        encode(mode, row, &build, "on", false, frames.clone());
-        encode(mode, row, &build, "flag", true, frames);
-        encode(mode, row, &build, "silence", false, silence);
+        encode(sink, row, build, "on", false, frames.clone());
+        encode(sink, row, build, "flag", true, frames);
+        encode(sink, row, build, "silence", false, silence);
     }
     for row in &ROWS {
         for order in 0..=8 {
-            decode(mode, row, order, &build, &mut random);
+            decode(sink, row, order, build, &mut random);
         }
     }
+}
+
+pub fn times() -> bool {
+    let [build, _] = both();
+    println!("the best of {PASSES} passes of {ROUNDS} rounds of {FRAMES} frames");
+    let mut sink = Sink::Times(Least::default());
+    for _ in 0..PASSES {
+        pass(&mut sink, &build);
+    }
+    if let Sink::Times(least) = sink {
+        least.print();
+    }
+    true
+}
+
+pub fn counts() -> bool {
+    let [build, _] = both();
+    pass(&mut Sink::Counts, &build);
     true
 }
