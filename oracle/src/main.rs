@@ -11,6 +11,8 @@ mod answer;
 #[cfg(feature = "error")]
 mod big;
 mod builds;
+#[cfg(feature = "lc3")]
+mod callgrind;
 mod caught;
 mod compare;
 mod cost;
@@ -88,7 +90,9 @@ fn main() -> ExitCode {
         #[cfg(feature = "lc3")]
         "lc3" => lc3::run(),
         #[cfg(feature = "lc3")]
-        "speed" => speed::run(),
+        "speed" => speed::times(),
+        #[cfg(feature = "lc3")]
+        "counts" => speed::counts(),
         _ => {
             eprintln!("oracle: no such word");
             return ExitCode::from(2);

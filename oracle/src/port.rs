@@ -82,6 +82,19 @@ pub fn decode(
     lent: &mut Lent,
 ) -> Answer {
     let lines = lent.lend();
+    decode_lines(duration, bandwidth, filters, orders, indices, lines)
+}
+
+/// The decoder on lines that have no guards around them.
+#[cfg(any(feature = "decode", feature = "lc3"))]
+pub fn decode_lines(
+    duration: u8,
+    bandwidth: u8,
+    filters: u8,
+    orders: &[u8],
+    indices: &[u8],
+    lines: &mut [f32],
+) -> Answer {
     // Sound if the library writes only the lines, which the guards help to see.
     unsafe {
         tns_decode(
@@ -157,6 +170,33 @@ pub fn encode(
             lines.len(),
             room.side[GUARDS..].as_mut_ptr(),
             room.coefficients.lend().as_mut_ptr(),
+        )
+    }
+}
+
+/// The encoder on lines, side data and coefficients that have no guards around
+/// them.
+#[cfg(feature = "lc3")]
+pub fn encode_lines(
+    duration: u8,
+    bandwidth: u8,
+    bits: u64,
+    near_nyquist: bool,
+    lines: &mut [f32],
+    side: &mut [u8; 20],
+    coefficients: &mut [f32; 16],
+) -> Answer {
+    // Sound as above.
+    unsafe {
+        tns_encode(
+            duration,
+            bandwidth,
+            bits,
+            near_nyquist,
+            lines.as_mut_ptr(),
+            lines.len(),
+            side.as_mut_ptr(),
+            coefficients.as_mut_ptr(),
         )
     }
 }

@@ -1,142 +1,290 @@
-//! The word `speed`: the port, the original and liblc3 side by side, in one
-//! process and on the same inputs. It prints times and demands nothing.
-//! Assumes that the port's static library and liblc3 are linked (feature
-//! "lc3"), and that the machine is otherwise idle. Every time includes copying
-//! the frame's lines in, which is the same for all three.
+//! The words `speed` and `counts`: the port, the original and liblc3 side by
+//! side, in one process, on the same lines in the same memory. `speed` prints
+//! times. `counts` makes the same calls once under valgrind's callgrind, which
+//! counts their instructions. Neither demands anything; bench/run makes a table
+//! of both. Assumes that the port's static library and liblc3 are linked
+//! (feature "lc3").
+//!
+//! A line of `speed` has fields between tabs: encode or decode, duration code,
+//! bandwidth, what is run, the orders met, then the ns a call of the port, of
+//! the Rust and of liblc3. A label of `counts` has the first four and then whose
+//! call it is and how often it was made.
 
+use crate::answer::ACCEPTED;
 use crate::builds::{both, Build};
+use crate::callgrind;
 use crate::cost::Frame;
 use crate::encode_draw::bands;
 use crate::lc3_calls::{analyze, synthesize, Data};
-use crate::port::{self, Lent, Room};
+use crate::port;
 use crate::random::{Random, SEED};
 use crate::rows::{Row, ROWS};
+use std::ffi::CString;
 use std::hint::black_box;
 use std::time::Instant;
 
-const FRAMES: usize = 32;
-const ROUNDS: usize = 300;
+/// So many that a row's lines, before and after, stay in the first-level cache.
+const FRAMES: usize = 12;
+/// The whole list is gone through so often, since what disturbs the machine may
+/// last longer than one measurement.
+const PASSES: usize = 8;
+const ROUNDS: usize = 250;
 /// Far above the weighting limits; a whole number of bytes for liblc3.
 const BITS: u64 = 1600;
 
-/// The shortest time of each job, in ns a frame. The jobs take turns, so that
-/// what disturbs the machine disturbs all of them.
-fn best(jobs: &mut [&mut dyn FnMut()]) -> Vec<f64> {
-    let mut least = vec![f64::INFINITY; jobs.len()];
-    for _ in 0..ROUNDS {
-        for (job, least) in jobs.iter_mut().zip(&mut least) {
-            let start = Instant::now();
-            job();
-            *least = least.min(start.elapsed().as_nanos() as f64 / FRAMES as f64);
+/// The lines of a frame at a round address, as a codec's own buffer has them.
+#[derive(Clone)]
+#[repr(align(64))]
+struct Lines([f32; 400]);
+
+/// The frames of a row, and the same memory for all three to work in.
+struct Frames {
+    fresh: Vec<Lines>,
+    used: Vec<Lines>,
+    length: usize,
+}
+
+/// The least times met so far: what is measured, then the orders met and four
+/// times, the first of a call that does nothing.
+#[derive(Default)]
+struct Least(Vec<(String, String, [f64; 4])>);
+
+impl Least {
+    fn keep(&mut self, name: &str, met: &str, times: [f64; 4]) {
+        match self.0.iter_mut().find(|entry| entry.0 == name) {
+            Some(entry) => {
+                for (least, time) in entry.2.iter_mut().zip(times) {
+                    *least = least.min(time);
+                }
+            }
+            None => self.0.push((name.to_string(), met.to_string(), times)),
         }
     }
-    least
-}
 
-fn report(what: &str, times: &[f64]) {
-    let [port, original, lc3] = [times[0], times[1], times[2]];
-    println!(
-        "speed: {what}: port {port:.0} ns, Rust {original:.0} ns, ratio {:.2}, liblc3 {lc3:.0} ns, ratio {:.2}",
-        original / port,
-        lc3 / port
-    );
-}
-
-fn frames(random: &mut Random, row: &Row) -> Vec<Vec<f32>> {
-    (0..FRAMES)
-        .map(|_| {
-            let mut lines = vec![0.0; row.last_stop()];
-            bands(random, row, &mut lines, 0, 10);
-            lines
-        })
-        .collect()
-}
-
-fn encode(row: &Row, build: &Build, frames: &[Vec<f32>]) {
-    let (mut lent, mut room) = (Lent::new(&frames[0]), Room::new());
-    let (mut a, mut b) = (frames[0].clone(), frames[0].clone());
-    let (d, w) = (row.duration, row.bandwidth);
-    let mut active = 0;
-    for frame in frames {
-        lent.refill(frame);
-        port::encode(d, w, BITS, false, &mut lent, &mut room);
-        active += usize::from(room.side()[2] > 0 || room.side()[3] > 0);
+    fn print(&self) {
+        for (name, met, [nothing, port, original, lc3]) in &self.0 {
+            let [port, original, lc3] = [port, original, lc3].map(|t| t - nothing);
+            println!("{name}\t{met}\t{port:.1}\t{original:.1}\t{lc3:.1}");
+        }
     }
-    let times = best(&mut [
-        &mut || {
-            for frame in frames {
-                lent.refill(frame);
-                black_box(port::encode(d, w, BITS, false, &mut lent, &mut room));
-            }
+}
+
+/// Where measurements go: to callgrind, or to the least times.
+enum Sink {
+    Counts,
+    Times(Least),
+}
+
+impl Frames {
+    fn new(fresh: Vec<Lines>, row: &Row) -> Self {
+        Frames {
+            used: fresh.clone(),
+            fresh,
+            length: row.last_stop(),
+        }
+    }
+
+    fn refill(&mut self) {
+        for (used, fresh) in self.used.iter_mut().zip(&self.fresh) {
+            used.0[..self.length].copy_from_slice(&fresh.0[..self.length]);
+        }
+    }
+
+    /// One call for each frame, in ns a call; the copying is not timed.
+    fn time(&mut self, call: &mut impl FnMut(&mut [f32])) -> f64 {
+        self.refill();
+        let start = Instant::now();
+        for used in &mut self.used {
+            call(&mut used.0[..self.length]);
+        }
+        start.elapsed().as_nanos() as f64 / FRAMES as f64
+    }
+
+    /// One call for each frame, its instructions counted; the copying is not.
+    fn count(&mut self, label: &str, call: &mut impl FnMut(&mut [f32])) {
+        self.refill();
+        for used in &mut self.used {
+            let lines = black_box(&mut used.0[..self.length]);
+            callgrind::toggle();
+            call(lines);
+            callgrind::toggle();
+        }
+        callgrind::dump(&CString::new(label).expect("a label without zeros"));
+    }
+}
+
+/// The three calls by turns, so that what disturbs the machine disturbs all of
+/// them alike, and beside them a call that does nothing, which is taken off.
+fn measure(
+    sink: &mut Sink,
+    name: &str,
+    met: &str,
+    frames: &mut Frames,
+    mut port: impl FnMut(&mut [f32]),
+    mut original: impl FnMut(&mut [f32]),
+    mut lc3: impl FnMut(&mut [f32]),
+) {
+    let mut nothing = |lines: &mut [f32]| {
+        black_box(lines);
+    };
+    let Sink::Times(times) = sink else {
+        frames.count(&format!("{name}\tnothing\t{FRAMES}"), &mut nothing);
+        frames.count(&format!("{name}\tport\t{FRAMES}"), &mut port);
+        frames.count(&format!("{name}\tRust\t{FRAMES}"), &mut original);
+        frames.count(&format!("{name}\tliblc3\t{FRAMES}"), &mut lc3);
+        return;
+    };
+    let mut least = [f64::INFINITY; 4];
+    for _ in 0..ROUNDS {
+        least[0] = least[0].min(frames.time(&mut nothing));
+        least[1] = least[1].min(frames.time(&mut port));
+        least[2] = least[2].min(frames.time(&mut original));
+        least[3] = least[3].min(frames.time(&mut lc3));
+    }
+    times.keep(name, met, least);
+}
+
+/// Frames whose bands all get a filter, and the same one from all three.
+fn active(random: &mut Random, row: &Row, build: &Build) -> Vec<Lines> {
+    let mut frames = Vec::new();
+    while frames.len() < FRAMES {
+        let mut lines = Lines([0.0; 400]);
+        bands(random, row, &mut lines.0[..row.last_stop()], 0, 10);
+        let drawn = lines.clone();
+        let lines = &mut lines.0[..row.last_stop()];
+        let answer = (build.encode)(row.duration, row.bandwidth, BITS, false, lines).side;
+        lines.copy_from_slice(&drawn.0[..row.last_stop()]);
+        let second = analyze(row, false, BITS as usize / 8, lines).frame();
+        let met = &answer.orders[..row.bands.len()];
+        if answer == second_opinion(&answer, &second) && met.iter().all(|order| *order > 0) {
+            frames.push(drawn);
+        }
+    }
+    frames
+}
+
+/// liblc3's side data, which leaves open what it does not count.
+fn second_opinion(first: &Frame, second: &Frame) -> Frame {
+    let mut opinion = first.clone();
+    opinion.orders[..second.filters].copy_from_slice(&second.orders[..second.filters]);
+    for f in 0..second.filters {
+        let places = 8 * f..8 * f + second.orders[f];
+        opinion.indices[places.clone()].copy_from_slice(&second.indices[places]);
+    }
+    opinion
+}
+
+fn encode(sink: &mut Sink, row: &Row, build: &Build, what: &str, flag: bool, frames: Vec<Lines>) {
+    let (d, w) = (row.duration, row.bandwidth);
+    let mut frames = Frames::new(frames, row);
+    let (mut side, mut coefficients) = ([0; 20], [0.0; 16]);
+    let mut met = Vec::new();
+    frames.refill();
+    for (used, fresh) in frames.used.iter_mut().zip(&frames.fresh) {
+        let lines = &mut used.0[..frames.length];
+        let answer = port::encode_lines(d, w, BITS, flag, lines, &mut side, &mut coefficients);
+        lines.copy_from_slice(&fresh.0[..frames.length]);
+        let original = (build.encode)(d, w, BITS, flag, lines);
+        assert_eq!(answer.refusal, 0, "the port refuses a frame of the bench");
+        assert_eq!(side, original.side.record(), "the port and E differ");
+        met.extend(side[2..2 + row.bands.len()].iter().map(u8::to_string));
+    }
+    met.sort_unstable();
+    met.dedup();
+    measure(
+        sink,
+        &format!("encode\t{d}\t{w}\t{what}"),
+        &met.join(" "),
+        &mut frames,
+        |lines| {
+            black_box(port::encode_lines(
+                d,
+                w,
+                BITS,
+                flag,
+                lines,
+                &mut side,
+                &mut coefficients,
+            ));
         },
-        &mut || {
-            for frame in frames {
-                a.copy_from_slice(frame);
-                black_box((build.encode)(d, w, BITS, false, &mut a));
-            }
+        |lines| {
+            black_box((build.encode)(d, w, BITS, flag, lines));
         },
-        &mut || {
-            for frame in frames {
-                b.copy_from_slice(frame);
-                black_box(analyze(row, false, BITS as usize / 8, &mut b));
-            }
+        |lines| {
+            black_box(analyze(row, flag, BITS as usize / 8, lines));
         },
-    ]);
-    report(
-        &format!("encode, {}, {active} of {FRAMES} active", row.name()),
-        &times,
     );
 }
 
-fn decode(row: &Row, order: usize, build: &Build, random: &mut Random, frames: &[Vec<f32>]) {
-    let (mut lent, mut a, mut b) = (Lent::new(&frames[0]), frames[0].clone(), frames[0].clone());
+fn decode(sink: &mut Sink, row: &Row, order: usize, build: &Build, random: &mut Random) {
+    let (d, w) = (row.duration, row.bandwidth);
+    let drawn = (0..FRAMES).map(|_| {
+        let mut lines = Lines([0.0; 400]);
+        bands(random, row, &mut lines.0[..row.last_stop()], 0, 10);
+        lines
+    });
+    let mut frames = Frames::new(drawn.collect(), row);
     let mut side = Frame::plain(0, 0);
     side.filters = row.bands.len();
     side.orders = [order, if row.bands.len() == 2 { order } else { 0 }];
     side.indices.fill_with(|| 6 + random.below(5));
-    let (d, w) = (row.duration, row.bandwidth);
-    let orders = side.orders.map(|n| n as u8);
+    let (filters, orders) = (side.filters as u8, side.orders.map(|n| n as u8));
     let indices = side.indices.map(|n| n as u8);
     let data = Data::of(&side);
-    let times = best(&mut [
-        &mut || {
-            for frame in frames {
-                lent.refill(frame);
-                let filters = side.filters as u8;
-                black_box(port::decode(d, w, filters, &orders, &indices, &mut lent));
-            }
+    let lines = &mut frames.used[0].0[..frames.length];
+    let answer = port::decode_lines(d, w, filters, &orders, &indices, lines);
+    assert_eq!(answer, ACCEPTED, "the port refuses a frame of the bench");
+    measure(
+        sink,
+        &format!("decode\t{d}\t{w}\torder {order}"),
+        &order.to_string(),
+        &mut frames,
+        |lines| {
+            black_box(port::decode_lines(d, w, filters, &orders, &indices, lines));
         },
-        &mut || {
-            for frame in frames {
-                a.copy_from_slice(frame);
-                (build.decode)(d, w, side.filters, &side.orders, &side.indices, &mut a);
-                black_box(&a);
-            }
+        |lines| {
+            (build.decode)(d, w, side.filters, &side.orders, &side.indices, lines);
+            black_box(lines);
         },
-        &mut || {
-            for frame in frames {
-                b.copy_from_slice(frame);
-                synthesize(row, &data, &mut b);
-                black_box(&b);
-            }
+        |lines| {
+            synthesize(row, &data, lines);
+            black_box(lines);
         },
-    ]);
-    report(&format!("decode, {}, order {order}", row.name()), &times);
+    );
 }
 
-pub fn run() -> bool {
-    let [build, _] = both();
+/// Every measurement once, on the same frames each time.
+fn pass(sink: &mut Sink, build: &Build) {
     let mut random = Random(SEED);
-    println!("speed: the best of {ROUNDS} rounds over {FRAMES} frames; a ratio of 2.00: the port is twice as fast");
     for row in &ROWS {
-        let frames = frames(&mut random, row);
-        encode(row, &build, &frames);
+        let frames = active(&mut random, row, build);
+        let silence = vec![Lines([0.0; 400]); FRAMES];
+        encode(sink, row, build, "on", false, frames.clone());
+        encode(sink, row, build, "flag", true, frames);
+        encode(sink, row, build, "silence", false, silence);
     }
     for row in &ROWS {
-        let frames = frames(&mut random, row);
         for order in 0..=8 {
-            decode(row, order, &build, &mut random, &frames);
+            decode(sink, row, order, build, &mut random);
         }
     }
+}
+
+pub fn times() -> bool {
+    let [build, _] = both();
+    println!("the best of {PASSES} passes of {ROUNDS} rounds of {FRAMES} frames");
+    let mut sink = Sink::Times(Least::default());
+    for _ in 0..PASSES {
+        pass(&mut sink, &build);
+    }
+    if let Sink::Times(least) = sink {
+        least.print();
+    }
+    true
+}
+
+pub fn counts() -> bool {
+    let [build, _] = both();
+    pass(&mut Sink::Counts, &build);
     true
 }

@@ -1,0 +1,146 @@
+#!/usr/bin/env python3
+"""The table of bench/RESULTS.txt, from what bench/run measured.
+
+    table.py FOLDER
+
+FOLDER holds `times`, the output of `oracle/run speed`, and `counts/part.N`, one
+file of callgrind's for each label of the harness's word `counts`. Assumes the
+fields that oracle/src/speed.rs states. Python 3's standard library alone.
+"""
+
+import pathlib
+import platform
+import sys
+
+ROWS = [(duration, bandwidth) for duration in "01" for bandwidth in "01234"]
+DURATIONS = {"0": "10 ms", "1": "7.5 ms"}
+
+# What is asked: the ratio to the Rust's time and to liblc3's, required, and wanted if there is such.
+ENCODE = {"Rust": (2.0, 2.5), "liblc3": (1.5, 2.0)}
+DECODE = {"Rust": (0.95, None), "liblc3": (1.0, None)}
+
+
+def read_times(folder):
+    """What was said of the run, and for each measurement what was met and three times."""
+    head, times = [], {}
+    for line in (folder / "times").read_text().splitlines():
+        fields = line.split("\t")
+        if len(fields) == 8:
+            times[tuple(fields[:4])] = (fields[4], [float(t) for t in fields[5:]])
+        else:
+            head.append(line)
+    return head, times
+
+
+def read_counts(folder):
+    """Instructions a call for each measurement: the port's, the Rust's, liblc3's."""
+    found = {}
+    for part in (folder / "counts").glob("part.*"):
+        label, total = None, None
+        for line in part.read_text().splitlines():
+            if line.startswith("desc: Trigger: Client Request: "):
+                label = line.split(": ", 3)[3].split("\t")
+            elif line.startswith("totals: "):
+                total = int(line.split()[1])
+        if label is not None:
+            *name, whose, calls = label
+            found[tuple(name), whose] = total / int(calls)
+    names = {name for name, _ in found}
+    whose = ("port", "Rust", "liblc3")
+    return {n: [found[n, w] - found[n, "nothing"] for w in whose] for n in names}
+
+
+def processor():
+    try:
+        for line in open("/proc/cpuinfo", encoding="ascii", errors="replace"):
+            if line.startswith("model name"):
+                return line.split(":", 1)[1].strip()
+    except OSError:
+        pass
+    return platform.machine()
+
+
+def row_name(duration, bandwidth):
+    return f"{DURATIONS[duration]} bandwidth {bandwidth}"
+
+
+def ratios(times):
+    port, original, lc3 = times
+    return {"Rust": original / port, "liblc3": lc3 / port}
+
+
+def print_rows(names, times, counts):
+    print(
+        f"{'row':<20}{'what':<9}{'orders':<17}{'port':>8}{'Rust':>8}{'liblc3':>8}"
+        f"{'Rust/port':>11}{'liblc3/port':>13}{'port':>10}{'Rust':>8}{'liblc3':>8}"
+    )
+    for name in names:
+        met, three = times[name]
+        _, duration, bandwidth, what = name
+        r = ratios(three)
+        cells = "".join(f"{t:>8.1f}" for t in three)
+        instructions = "".join(f"{round(c):>{w}}" for c, w in zip(counts[name], (10, 8, 8)))
+        print(
+            f"{row_name(duration, bandwidth):<20}{what:<9}{met:<17}{cells}"
+            f"{r['Rust']:>11.2f}{r['liblc3']:>13.2f}{instructions}"
+        )
+    print()
+
+
+def print_marks(title, names, times, marks):
+    """The lowest ratio, where it is, and the measurements below each mark."""
+    for other, (required, wanted) in marks.items():
+        of = {name: ratios(times[name][1])[other] for name in names}
+        low = min(of, key=of.get)
+        where = f"{row_name(*low[1:3])} {low[3]}"
+        line = f"{title}, {other}/port: lowest {of[low]:.2f} ({where})"
+        for word, mark in (("required", required), ("wanted", wanted)):
+            if mark is not None:
+                below = sum(r < mark for r in of.values())
+                state = "met" if below == 0 else f"NOT met by {below} of {len(of)}"
+                line += f"; {word} {mark}: {state}"
+        print(line)
+
+
+def main():
+    folder = pathlib.Path(sys.argv[1])
+    head, times = read_times(folder)
+    counts = read_counts(folder)
+    if set(times) != set(counts):
+        sys.exit("table: the times and the counts are not of the same measurements")
+    print("Speed of the port, the Rust and liblc3, by bench/run.")
+    print(f"{processor()}; callgrind of {valgrind(folder)}")
+    for line in head:
+        print(line)
+    print()
+    print("Times in ns a call; ratios above 1 say that the port is faster; the last three")
+    print("columns are instructions a call.")
+    print()
+    print("encode: on: every band of every frame gets a filter, of the orders named; flag: the")
+    print("same frames with the near-Nyquist flag, which turns the filter off after the")
+    print("analysis; silence: all lines 0. In 10 ms bandwidth 2 E filters only up to line 200.")
+    print()
+    encode = [("encode", d, b, w) for w in ("on", "flag", "silence") for d, b in ROWS]
+    print_rows(encode, times, counts)
+    print("decode")
+    print()
+    decode = [("decode", d, b, f"order {o}") for d, b in ROWS for o in range(9)]
+    print_rows(decode, times, counts)
+    print("marks")
+    for what in ("on", "flag", "silence"):
+        names = [name for name in encode if name[3] == what]
+        print_marks(f"encode, {what}", names, times, ENCODE)
+    print_marks("decode, order 0", [n for n in decode if n[3] == "order 0"], times, DECODE)
+    others = [n for n in decode if n[3] != "order 0"]
+    print_marks("decode, orders 1 to 8", others, times, DECODE)
+
+
+def valgrind(folder):
+    for line in (folder / "valgrind").read_text().splitlines():
+        if "Using Valgrind-" in line:
+            return "valgrind " + line.split("Using Valgrind-")[1].split()[0]
+    return "valgrind"
+
+
+if __name__ == "__main__":
+    main()
