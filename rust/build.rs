@@ -1,5 +1,5 @@
 //! Links libtns.a. The variable TNS_ARCHIVE can name it by its full path; without it the archive is
-//! the repository's, which is proved and built first if it is missing.
+//! the repository's, which `rt staticlib tns` proves and builds whenever a crate has changed.
 
 use std::path::{Path, PathBuf};
 use std::process::Command;
@@ -17,16 +17,15 @@ fn main() {
 fn of_repository() -> PathBuf {
     let here = std::env::var_os("CARGO_MANIFEST_DIR").expect("cargo sets it");
     let root = Path::new(&here).join("..");
-    let archive = root.join("target/staticlib/libtns.a");
-    if !archive.exists() {
-        let made = Command::new("rt")
-            .args(["staticlib", "tns"])
-            .current_dir(&root)
-            .status();
-        assert!(
-            made.is_ok_and(|status| status.success()),
-            "`rt staticlib tns` did not make libtns.a"
-        );
-    }
-    archive
+    println!("cargo:rerun-if-changed={}", root.join("crates").display());
+    // What rt prints would be read as cargo's instructions.
+    let made = Command::new("rt")
+        .args(["staticlib", "tns"])
+        .current_dir(&root)
+        .output();
+    assert!(
+        made.is_ok_and(|output| output.status.success()),
+        "`rt staticlib tns` did not make libtns.a"
+    );
+    root.join("target/staticlib/libtns.a")
 }
