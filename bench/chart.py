@@ -6,6 +6,7 @@
 Assumes the columns that bench/table.py prints. Python 3's standard library alone.
 """
 
+import math
 import re
 import statistics
 import sys
@@ -115,7 +116,8 @@ class Panel:
 
 
 def encode(out, number, ratios, what, title):
-    panel = Panel(out, number, title, 5, 1)
+    most = max(max(ratios[ms, bw, what].values()) for ms, bw in ROWS)
+    panel = Panel(out, number, title, math.ceil(most), 1)
     for n, (ms, bw) in enumerate(ROWS):
         r = ratios[ms, bw, what]
         panel.bar(n, 0, 2, r["Rust"], RUST, 8)
@@ -137,12 +139,15 @@ def decode(out, number, ratios):
     for n, (ms, bw) in enumerate(ROWS):
         for place, (other, colour) in enumerate((("Rust", RUST), ("liblc3", LC3))):
             of = [ratios[ms, bw, f"order {order}"][other] for order in range(9)]
-            panel.bar(n, 2 * place, 4, statistics.median(of), colour, 28)
-            x = panel.bar(n, 2 * place + 1, 4, min(of[1:]), LIGHT[colour], 28)
+            rise = 8 if of[0] > 0.4 else 40  # clear of the dot
+            panel.bar(n, 2 * place, 4, statistics.median(of), colour, rise)
+            x = panel.bar(n, 2 * place + 1, 4, min(of[1:]), LIGHT[colour], rise)
             y = panel.y(of[0])
             out.append(
                 f'<circle cx="{x:.1f}" cy="{y}" r="3.5" fill="{colour}" stroke="#ffffff"/>'
             )
+            if of[0] > panel.most:
+                panel.text(x + 6, y + 14, f"{of[0]:.1f}", 11)
     panel.mark(0.95, RUST)
     panel.mark(1.0, LC3)
     panel.legend(
@@ -155,9 +160,8 @@ def decode(out, number, ratios):
             ("dot", LC3, "order 0"),
         ]
     )
-    panel.text(
-        WIDTH - RIGHT, panel.top - 14, "dashed: required, 0.95 of Rust and 1.0 of liblc3", 12, "end"
-    )
+    words = "dashed: required, 0.95 of Rust and 1.0 of liblc3; a dot at the top has its value"
+    panel.text(WIDTH - RIGHT, panel.top - 14, words, 12, "end")
 
 
 def main():
