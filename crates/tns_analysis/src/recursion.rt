@@ -63,13 +63,16 @@ fn next_step(r: [f32; 9], k: usize, p: Predictor) -> Predictor
 pub fn predict(r: [f32; 9]) -> Predictor
     ensures { λ p. ⌜ p ≡ predicted r 8 ⌝ }
 {
-    let mut p = Predictor {
+    let start = Predictor {
         row: [1.0, 0.0, 0.0, 0.0, 0.0, 0.0, 0.0, 0.0, 0.0],
         error: r[0],
     };
-    for k in 1..9usize {
-        let next = next_step(r, k, p);
-        p = next;
-    }
-    p
+    let p1 = next_step(r, 1, start);
+    let p2 = next_step(r, 2, p1);
+    let p3 = next_step(r, 3, p2);
+    let p4 = next_step(r, 4, p3);
+    let p5 = next_step(r, 5, p4);
+    let p6 = next_step(r, 6, p5);
+    let p7 = next_step(r, 7, p6);
+    next_step(r, 8, p7)
 }

@@ -80,6 +80,9 @@ fn filter_decoded(
     ensures { λ r. ⌜ r ≡ statesAfter (map decoderCoefficient (now (indices .entry))) order states (inside band (now (lines .entry))) ⌝ }
     ensures { λ _. ⌜ now (lines .exit) ≡ within band (linesDecoded (map decoderCoefficient (now (indices .entry))) order states) (now (lines .entry)) ⌝ }
 {
+    if order == 0 {
+        return states;
+    }
     let q = coefficients(indices);
     let start = band.start;
     let stop = band.stop;

@@ -11,37 +11,23 @@ pub struct Passed {
     pub states: [f32; 8],
 }
 
-fn stage_down(p: Passed, q: f32, k: usize) -> Passed
-    requires { ⌜ k < 7 ⌝ }
-    ensures { λ r. ⌜ r ≡ stage q k p ⌝ }
-{
-    let old = p.states[k];
-    let t = p.t - q * old;
-    let mut next = p;
-    next.t = t;
-    next.states[k + 1] = q * t + old;
-    next
-}
-
 // One line through a filter of order 1 to 8.
 fn line_decoded(q: [f32; 8], order: usize, states: [f32; 8], line: f32) -> Passed
     requires { ⌜ (0 < order) × (order ≤ 8) ⌝ }
     ensures { λ r. ⌜ r ≡ lineDecoded q order states line ⌝ }
 {
     let last = order - 1;
-    let mut p = Passed {
-        t: line - q[last] * states[last],
-        states,
-    };
+    let mut state = states;
+    let mut t = line - q[last] * state[last];
     let mut k = last;
     while k > 0 {
         k -= 1;
-        let next = stage_down(p, q[k], k);
-        p = next;
+        let old = state[k];
+        t = t - q[k] * old;
+        state[k + 1] = q[k] * t + old;
     }
-    let t = p.t;
-    p.states[0] = t;
-    p
+    state[0] = t;
+    Passed { t, states: state }
 }
 
 // The lines of a band in place, upwards. It answers the states after them.

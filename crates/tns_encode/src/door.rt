@@ -88,6 +88,9 @@ fn filter_encoded(
     ensures { λ r. ⌜ r ≡ statesAfter q order states (inside band (now (lines .entry))) ⌝ }
     ensures { λ _. ⌜ now (lines .exit) ≡ within band (linesEncoded q order states) (now (lines .entry)) ⌝ }
 {
+    if order == 0 {
+        return states;
+    }
     let start = band.start;
     let stop = band.stop;
     band_encoded(q, order, states, &mut lines[start..stop])
@@ -196,8 +199,11 @@ fn filter_of(lines: &[f32], band: Band, flag: bool, weighting: u8) -> Quantized
     ensures { λ r. ⌜ r ≡ filterOf band (now (lines .entry)) flag weighting ⌝ }
 {
     let found = analyse(lines, band, flag, weighting);
-    let reflections = found.reflections;
-    quantize_all(reflections)
+    if found.gain.on {
+        let reflections = found.reflections;
+        return quantize_all(reflections);
+    }
+    none()
 }
 
 // The filter of the second band, or of none.

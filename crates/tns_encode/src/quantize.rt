@@ -10,9 +10,9 @@ ghost use Rattle.tns_encode.specs.Quantized.{quantizedOf, absent};
 
 // A filter's order, eight indices, and the coefficients that they stand for.
 pub struct Quantized {
-    pub order: u8,
-    pub indices: [u8; 8],
     pub coefficients: [f32; 8],
+    pub indices: [u8; 8],
+    pub order: u8,
 }
 
 fn indices_of(reflections: [f32; 8]) -> [u8; 8]

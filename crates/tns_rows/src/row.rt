@@ -7,7 +7,8 @@ use crate::duration::duration_of;
 use crate::duration::longest;
 use tns_refusals::Refusal;
 ghost use mathlib.Core.Path.{_≡_};
-ghost use lib.ListN.{length};
+ghost use mathlib.Core.List.{[]};
+ghost use lib.ListN.{length, getD};
 ghost use Rattle.tns_rows.specs.Bands.{bandsOf, rowOf, noBand, bandOf, lastStop, frameOf, frameSays, inside, askedBand};
 
 // A band: its lines are those from start to stop, stop not included. Two cuts make three subbands.
@@ -77,17 +78,28 @@ fn bands_of(row: [usize; 8]) -> Row
     Row { first, second }
 }
 
+// The row of a table, and none past its last. Each bandwidth is a literal in its arm, so that the
+// compiler keeps the table as a constant and does not write it out at each call.
+fn row_in(table: [[usize; 8]; 5], bandwidth: u8) -> Row
+    ensures { λ r. ⌜ r ≡ bandsOf (getD table bandwidth []) ⌝ }
+{
+    match bandwidth {
+        0 => bands_of(table[0]),
+        1 => bands_of(table[1]),
+        2 => bands_of(table[2]),
+        3 => bands_of(table[3]),
+        4 => bands_of(table[4]),
+        _ => bands_of([0; 8]),
+    }
+}
+
 // The bands of a duration and a bandwidth from 0 to 4, and none at any other.
 pub fn row_of(duration: Duration, bandwidth: u8) -> Row
     ensures { λ r. ⌜ r ≡ rowOf duration bandwidth ⌝ }
 {
-    if bandwidth > 4 {
-        return bands_of([0; 8]);
-    }
-    let b = bandwidth as usize;
     match duration {
-        Duration::Ten => bands_of(TEN_MS_ROWS[b]),
-        Duration::SevenPointFive => bands_of(SEVEN_POINT_FIVE_MS_ROWS[b]),
+        Duration::Ten => row_in(TEN_MS_ROWS, bandwidth),
+        Duration::SevenPointFive => row_in(SEVEN_POINT_FIVE_MS_ROWS, bandwidth),
     }
 }
 

@@ -1,6 +1,7 @@
 // The cost of side data in bits: E's `calc_bit_budget` in whole numbers, and the door that checks its
 // input first. Assumes nothing.
-use crate::tables::coef_bits;
+use crate::tables::AC_TNS_COEF_BITS;
+use crate::tables::of_coefficient;
 use crate::tables::order_bits;
 use tns_refusals::Refusal;
 use tns_refusals::SideAnswer;
@@ -32,10 +33,14 @@ fn widened(x: u16) -> u32
 fn filter_cost(weighting: u8, order: u8, indices: &[u8]) -> u32
     ensures { λ r. ⌜ r ≡ filterCost weighting order (now (indices .entry)) ⌝ }
 {
+    if order == 0 {
+        return 0;
+    }
     let mut cost = widened(order_bits(weighting, order));
     let count = least(order as usize, indices.len());
+    let table = AC_TNS_COEF_BITS;
     for place in 0..count {
-        cost += widened(coef_bits(place as u8, indices[place]));
+        cost += widened(of_coefficient(&table, place as u8, indices[place]));
     }
     cost
 }

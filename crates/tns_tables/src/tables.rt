@@ -20,7 +20,7 @@ const AC_TNS_ORDER_CUMFREQ: [[u16; 8]; 2] = [
     [0, 14, 56, 156, 313, 494, 672, 839],
 ];
 
-const AC_TNS_COEF_BITS: [[u16; 17]; 8] = [
+pub const AC_TNS_COEF_BITS: [[u16; 17]; 8] = [
     [
         20480,
         15725,
@@ -415,7 +415,7 @@ fn of_order(table: &[[u16; 8]; 2], weighting: u8, order: u8) -> u16
 }
 
 // One lookup serves the three coefficient tables.
-fn of_coefficient(table: &[[u16; 17]; 8], place: u8, index: u8) -> u16
+pub fn of_coefficient(table: &[[u16; 17]; 8], place: u8, index: u8) -> u16
     requires { ⌜ (length (now table) ≡ 8) × (wide 17 (now table) ≡ true) ⌝ }
     ensures { λ r. ⌜ r ≡ cell (now (table .entry)) place index ⌝ }
 {

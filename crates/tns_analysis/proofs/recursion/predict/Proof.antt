@@ -1,71 +1,98 @@
--- `tns_analysis::recursion::predict` meets its contract. The invariant: the predictor is the definition's after the steps passed.
+-- `tns_analysis::recursion::predict` meets its contract: each call is one step of the definition.
 -- Assumes nothing.
 use mathlib.Core.Path.{_≡_, refl, sym, _∙_, ap}
 use mathlib.Core.List.{List}
-use Prim.Native.Nat.{ℕ, zero, suc, _+_, _-_, _<_, _≤_}
-use native.Mathlib.Numerals.{add-one, sub-one}
-use native.Mathlib.Nat.{not-suc-le-zero}
-use native.Mathlib.Omega.{arith}
-use borrow.Author.Needs.{needs}
+use Prim.Native.Nat.{ℕ, suc}
 use lib.Ieee.{Float}
 use Rattle.tns_analysis.specs.Floats.{tab}
 use Rattle.tns_analysis.specs.Recursion.{unpredicted, stepped, predicted}
 use Rattle.tns_analysis.specs.declared.recursion.Predictor.{Predictor}
+use borrow.Author.Needs.{needs}
 use Rattle.tns_analysis.proofs.recursion.predict.Statement.{statement}
 use Rattle.tns_analysis.proofs.recursion.predict.Tie as tie
+use Rattle.tns_analysis.proofs.recursion.predict.Reads as reads
+use Rattle.tns_analysis.proofs.recursion.predict.Lts as lts
+use Rattle.tns_analysis.proofs.recursion.next_step.Reads as next-step-reads
 
-one-step : (r : List Float) (k : ℕ) (p : Predictor) → 0 < k → p ≡ predicted r (k - 1) → stepped r k p ≡ predicted r (k + 1 - 1)
+-- the first step, from the row that the code writes out
+first : (r : List Float) (n : Predictor) → n ≡ stepped r 1 (unpredicted r) → n ≡ predicted r 1
 unfolding predicted
-one-step r zero p h e = absurd (not-suc-le-zero h)
-one-step r (suc k) p h e =
-    let last : suc k - 1 ≡ k = omega arith in
-    let next : suc k + 1 - 1 ≡ suc k = omega arith in
-    rw (next, e, last)
+first r n e = e
 
-abbrev Inv-loop : tie.InvT-loop
-Inv-loop r p₀ k₀ p k = (0 < k) × (k ≤ 9) × (p ≡ predicted r (k - 1))
+-- one more step
+next : (r : List Float) (k : ℕ) (p n : Predictor) → n ≡ stepped r (suc k) p → p ≡ predicted r k → n ≡ predicted r (suc k)
+unfolding predicted
+next r k p n e h = e ∙ ap (stepped r (suc k)) h
 
-abbrev μ-loop : tie.MeasureT-loop
-μ-loop r p₀ k₀ p k = 9 - k
+-- src/recursion.rt:68:16
+array-read-t14 : tie.Need-array-read-t14
+array-read-t14 c = search needs
 
-array-read-t9 : tie.Need-array-read-t9 Inv-loop μ-loop
-array-read-t9 c = omega arith
+-- src/recursion.rt:70:9
+next-step-requires : tie.Need-next-step-requires
+next-step-requires c κs = search needs
 
-loop-holds : tie.Need-loop-holds Inv-loop μ-loop
-unfolding predicted unpredicted tab
-loop-holds c = (omega arith, omega arith, refl)
+-- src/recursion.rt:71:9
+next-step-requires-2 : tie.Need-next-step-requires-2
+next-step-requires-2 c κs = search needs
 
-next-step-requires : tie.Need-next-step-requires Inv-loop μ-loop
-next-step-requires c κs = omega arith
+-- src/recursion.rt:72:9
+next-step-requires-3 : tie.Need-next-step-requires-3
+next-step-requires-3 c κs = search needs
 
-add-k : tie.Need-add-k Inv-loop μ-loop
-add-k c = omega arith
+-- src/recursion.rt:73:9
+next-step-requires-4 : tie.Need-next-step-requires-4
+next-step-requires-4 c κs = search needs
 
-loop-less : tie.Need-loop-less Inv-loop μ-loop
-loop-less c = omega arith
+-- src/recursion.rt:74:9
+next-step-requires-5 : tie.Need-next-step-requires-5
+next-step-requires-5 c κs = search needs
 
-loop-again : tie.Need-loop-again Inv-loop μ-loop
-loop-again c =
-    let l = c .before .before .loop in
-    let r = c .before .before .before .args .t1 in
-    (omega arith, omega arith, c .next-step .ensures ∙ one-step r (l .k) (l .p) (l .inv .0) (l .inv .2))
+-- src/recursion.rt:75:9
+next-step-requires-6 : tie.Need-next-step-requires-6
+next-step-requires-6 c κs = search needs
 
-returns : tie.Need-returns Inv-loop μ-loop
+-- src/recursion.rt:76:9
+next-step-requires-7 : tie.Need-next-step-requires-7
+next-step-requires-7 c κs = search needs
+
+-- src/recursion.rt:77:5
+next-step-requires-8 : tie.Need-next-step-requires-8
+next-step-requires-8 c κs = search needs
+
+-- src/recursion.rt:63:1
+returns : tie.Need-returns
+unfolding unpredicted tab
 returns c =
-    let l = c .before .loop in
-    let e : l .k - 1 ≡ 8 = omega arith in
-    l .inv .2 ∙ ap (predicted (c .before .before .args .t1)) e
+    let r = c .before .before .before .before .before .before .before .before .args .t1 in
+    let c1 = c .before .before .before .before .before .before .before .next-step in
+    let c2 = c .before .before .before .before .before .before .next-step2 in
+    let c3 = c .before .before .before .before .before .next-step3 in
+    let c4 = c .before .before .before .before .next-step4 in
+    let c5 = c .before .before .before .next-step5 in
+    let c6 = c .before .before .next-step6 in
+    let c7 = c .before .next-step7 in
+    let c8 = c .next-step8 in
+    let p1 : c1 .result ≡ predicted r 1 = first r (c1 .result) (c1 .ensures) in
+    let p2 : c2 .result ≡ predicted r 2 = next r 1 (c1 .result) (c2 .result) (c2 .ensures) p1 in
+    let p3 : c3 .result ≡ predicted r 3 = next r 2 (c2 .result) (c3 .result) (c3 .ensures) p2 in
+    let p4 : c4 .result ≡ predicted r 4 = next r 3 (c3 .result) (c4 .result) (c4 .ensures) p3 in
+    let p5 : c5 .result ≡ predicted r 5 = next r 4 (c4 .result) (c5 .result) (c5 .ensures) p4 in
+    let p6 : c6 .result ≡ predicted r 6 = next r 5 (c5 .result) (c6 .result) (c6 .ensures) p5 in
+    let p7 : c7 .result ≡ predicted r 7 = next r 6 (c6 .result) (c7 .result) (c7 .ensures) p6 in
+    next r 7 (c7 .result) (c8 .result) (c8 .ensures) p7
 
 pub predict-spec : {M : Type 1} → statement M
 predict-spec =
     tie.close
     (tie.spec
-    Inv-loop
-    μ-loop
-    array-read-t9
-    loop-holds
+    array-read-t14
     next-step-requires
-    add-k
-    loop-less
-    loop-again
+    next-step-requires-2
+    next-step-requires-3
+    next-step-requires-4
+    next-step-requires-5
+    next-step-requires-6
+    next-step-requires-7
+    next-step-requires-8
     returns)

@@ -1,24 +1,32 @@
--- `tns_decode::lattice::line_decoded` meets its contract. The invariant: the stages still to come, on the line as it is, give what all of them give.
+-- `tns_decode::lattice::line_decoded` meets its contract. The invariant: the stages still to come, on the line and the states as they are, give
+-- what all of them give.
 -- Assumes nothing.
 use mathlib.Core.Path.{_≡_, refl, sym, _∙_, ap}
 use mathlib.Core.List.{List}
-use Prim.Native.Nat.{ℕ, zero, suc, _-_, _<_, _≤_}
-use native.Mathlib.Numerals.{sub-one}
+use Prim.Native.Nat.{ℕ, zero, suc, _+_, _-_, _<_, _≤_}
+use native.Mathlib.Numerals.{add-one, sub-one}
 use native.Mathlib.Nat.{not-suc-le-zero}
 use native.Mathlib.Omega.{arith}
-use borrow.Author.Needs.{needs}
-use lib.Ieee.{Float, nan, sub, mul, binary32}
+use lib.Ieee.{Float, nan, add, sub, mul, binary32}
 use lib.ListN.{getD, set}
 use Rattle.tns_decode.specs.Lattice.{stage, stagesBelow, passing, lineDecoded}
 use Rattle.tns_decode.specs.declared.lattice.Passed.{Passed}
 use Rattle.tns_decode.proofs.lattice.line_decoded.Statement.{statement}
 use Rattle.tns_decode.proofs.lattice.line_decoded.Tie as tie
+use Rattle.tns_decode.proofs.lattice.line_decoded.Reads as reads
+use Rattle.tns_decode.proofs.lattice.line_decoded.Lts as lts
 
--- the highest stage that is left, and then those below it
-one-stage : (q : List Float) (k : ℕ) (p : Passed) → 0 < k → stagesBelow q k p ≡ stagesBelow q (k - 1) (stage (getD q (k - 1) nan) (k - 1) p)
-unfolding stagesBelow
-one-stage q zero p h = absurd (not-suc-le-zero h)
-one-stage q (suc k) p h = rw sub-one
+-- t after the stage below k
+abbrev below : List Float → ℕ → Float → List Float → Float
+below q k t s = sub binary32 t (mul binary32 (getD q (k - 1) nan) (getD s (k - 1) nan))
+
+-- the highest stage that is left, as the code does it, and then those below it
+one-stage : (q : List Float) (k : ℕ) (t : Float) (s : List Float) → 0 < k
+    → stagesBelow q k (passing t s)
+    ≡ stagesBelow q (k - 1) (passing (below q k t s) (set s (k - 1 + 1) (add binary32 (mul binary32 (getD q (k - 1) nan) (below q k t s)) (getD s (k - 1) nan))))
+unfolding stagesBelow stage
+one-stage q zero t s h = absurd (not-suc-le-zero h)
+one-stage q (suc k) t s h = rw (sub-one, add-one)
 
 none-left : (q : List Float) (p : Passed) → stagesBelow q 0 p ≡ p
 unfolding stagesBelow
@@ -32,62 +40,98 @@ whole q zero states line p h e = absurd (not-suc-le-zero h)
 whole q (suc k) states line p h e = rw (sym e, sub-one)
 
 abbrev Inv-loop : tie.InvT-loop
-Inv-loop order line q last p₀ k₀ p k = (k ≤ last) × (stagesBelow q last p₀ ≡ stagesBelow q k p)
+Inv-loop order line q last state₀ t₀ k₀ state t k = (k ≤ last) × (stagesBelow q last (passing t₀ state₀) ≡ stagesBelow q k (passing t state))
 
 abbrev μ-loop : tie.MeasureT-loop
-μ-loop order line q last p₀ k₀ p k = k
+μ-loop order line q last state₀ t₀ k₀ state t k = k
 
+-- src/lattice.rt:19:16
 sub-last : tie.Need-sub-last Inv-loop μ-loop
 sub-last c = omega arith
 
-mul-t12 : tie.Need-mul-t12 Inv-loop μ-loop
-mul-t12 c = omega arith
+-- src/lattice.rt:21:24
+mul-t : tie.Need-mul-t Inv-loop μ-loop
+mul-t c = omega arith
 
-array-read-t15 : tie.Need-array-read-t15 Inv-loop μ-loop
-array-read-t15 c = omega arith
+-- src/lattice.rt:21:24
+array-read-t : tie.Need-array-read-t Inv-loop μ-loop
+array-read-t c = omega arith
 
-mul-t16 : tie.Need-mul-t16 Inv-loop μ-loop
-mul-t16 c = omega arith
+-- src/lattice.rt:21:34
+mul-t-2 : tie.Need-mul-t-2 Inv-loop μ-loop
+mul-t-2 c = omega arith
 
-array-read-t19 : tie.Need-array-read-t19 Inv-loop μ-loop
-array-read-t19 c = omega arith
+-- src/lattice.rt:21:34
+array-read-t-2 : tie.Need-array-read-t-2 Inv-loop μ-loop
+array-read-t-2 c = omega arith
 
+-- src/lattice.rt:23:5
 loop-holds : tie.Need-loop-holds Inv-loop μ-loop
 loop-holds c = (omega arith, refl)
 
+-- src/lattice.rt:24:9
 sub-k : tie.Need-sub-k Inv-loop μ-loop
 sub-k c = omega arith
 
-mul-stage-down : tie.Need-mul-stage-down Inv-loop μ-loop
-mul-stage-down c = omega arith
+-- src/lattice.rt:25:19
+mul-old : tie.Need-mul-old Inv-loop μ-loop
+mul-old c = omega arith
 
-array-read-stage-down : tie.Need-array-read-stage-down Inv-loop μ-loop
-array-read-stage-down c = omega arith
+-- src/lattice.rt:25:19
+array-read-old : tie.Need-array-read-old Inv-loop μ-loop
+array-read-old c = omega arith
 
-stage-down-requires : tie.Need-stage-down-requires Inv-loop μ-loop
-stage-down-requires c κs = omega arith
+-- src/lattice.rt:26:17
+mul-t-3 : tie.Need-mul-t-3 Inv-loop μ-loop
+mul-t-3 c = omega arith
 
+-- src/lattice.rt:26:17
+array-read-t-3 : tie.Need-array-read-t-3 Inv-loop μ-loop
+array-read-t-3 c = omega arith
+
+-- src/lattice.rt:27:24
+mul-state : tie.Need-mul-state Inv-loop μ-loop
+mul-state c = omega arith
+
+-- src/lattice.rt:27:24
+array-read-state : tie.Need-array-read-state Inv-loop μ-loop
+array-read-state c = omega arith
+
+-- src/lattice.rt:27:15
+add-state : tie.Need-add-state Inv-loop μ-loop
+add-state c = omega arith
+
+-- src/lattice.rt:27:9
+mul-state-2 : tie.Need-mul-state-2 Inv-loop μ-loop
+mul-state-2 c = omega arith
+
+-- src/lattice.rt:27:9
+array-write-state : tie.Need-array-write-state Inv-loop μ-loop
+array-write-state c = omega arith
+
+-- src/lattice.rt:23:5
 loop-less : tie.Need-loop-less Inv-loop μ-loop
 loop-less c = omega arith
 
+-- src/lattice.rt:23:5
 loop-again : tie.Need-loop-again Inv-loop μ-loop
 loop-again c =
-    let l = c .before .before .loop in
-    let g = c .before .before .before .args in (
-      omega arith,
-      l .inv .1 ∙ one-stage (g .t1) (l .k) (l .p) (omega arith) ∙ ap (stagesBelow (g .t1) (l .k - 1)) (sym (c .stage-down .ensures)),
-    )
+    let l = c .before .loop in
+    let g = c .before .before .args in
+    (omega arith, l .inv .1 ∙ one-stage (g .t1) (l .k) (l .t) (l .state) (omega arith))
 
-element-write-p : tie.Need-element-write-p Inv-loop μ-loop
-element-write-p c = omega arith
+-- src/lattice.rt:29:5
+array-write-state-2 : tie.Need-array-write-state-2 Inv-loop μ-loop
+array-write-state-2 c = omega arith
 
+-- src/lattice.rt:15:1
 returns : tie.Need-returns Inv-loop μ-loop
 returns c =
     let l = c .before .loop in
     let g = c .before .before .args in
     let done : l .k ≡ 0 = omega arith in
-    whole (g .t1) (g .order) (g .t3) (g .line) (l .p) (omega (arith, c .before .before .pre))
-    (l .inv .1 ∙ ap (λ (k : ℕ). stagesBelow (g .t1) k (l .p)) done ∙ none-left (g .t1) (l .p))
+    whole (g .t1) (g .order) (g .states) (g .line) (passing (l .t) (l .state)) (omega (arith, c .before .before .pre))
+    (l .inv .1 ∙ ap (λ (k : ℕ). stagesBelow (g .t1) k (passing (l .t) (l .state))) done ∙ none-left (g .t1) (passing (l .t) (l .state)))
 
 pub line-decoded-spec : {M : Type 1} → statement M
 line-decoded-spec =
@@ -96,16 +140,22 @@ line-decoded-spec =
     Inv-loop
     μ-loop
     sub-last
-    mul-t12
-    array-read-t15
-    mul-t16
-    array-read-t19
+    mul-t
+    array-read-t
+    mul-t-2
+    array-read-t-2
     loop-holds
     sub-k
-    mul-stage-down
-    array-read-stage-down
-    stage-down-requires
+    mul-old
+    array-read-old
+    mul-t-3
+    array-read-t-3
+    mul-state
+    array-read-state
+    add-state
+    mul-state-2
+    array-write-state
     loop-less
     loop-again
-    element-write-p
+    array-write-state-2
     returns)

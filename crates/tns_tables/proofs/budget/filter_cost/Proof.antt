@@ -8,7 +8,7 @@ use native.Mathlib.Omega.{arith}
 use borrow.Author.Needs.{needs}
 use lib.ListN.{length, getD, drop, take, length-take, drop-of-length-le}
 use lib.Seq.{drop-cons, getD-take}
-use Rattle.tns_tables.specs.Tables.{cell, ofOrder, orderBits, coefBits}
+use Rattle.tns_tables.specs.Tables.{cell, wide, ofOrder, orderBits, coefBits}
 use Rattle.tns_tables.specs.Cost.{orderCost, indexCost, indexCosts, filterCost}
 use Rattle.tns_tables.proofs.budget.filter_cost.Statement.{statement}
 use Rattle.tns_tables.proofs.budget.filter_cost.Tie as tie
@@ -33,11 +33,19 @@ unfolding filterCost orderCost
 start weighting order is = refl
 
 abbrev Inv-loop : tie.InvT-loop
-Inv-loop weighting order indices cost₀ count place₀ cost place =
+Inv-loop weighting order indices cost₀ count table place₀ cost place =
     (place ≤ count) × (cost ≤ 65535 + 65535 * place) × (cost + indexCosts place (drop place (take order indices)) ≡ filterCost weighting order indices)
 
 abbrev μ-loop : tie.MeasureT-loop
-μ-loop weighting order indices cost₀ count place₀ cost place = count - place
+μ-loop weighting order indices cost₀ count table place₀ cost place = count - place
+
+-- order 0 costs nothing
+free : (weighting : ℕ) (is : List ℕ) → 0 ≡ filterCost weighting 0 is
+unfolding filterCost orderCost ofOrder indexCosts
+free weighting is = refl
+
+returns : tie.Need-returns Inv-loop μ-loop
+returns c = rw (c .if1 .taken) (free (c .before .before .args .weighting) (c .before .before .args .indices .now))
 
 order-bits-requires : tie.Need-order-bits-requires Inv-loop μ-loop
 order-bits-requires c κs = search needs
@@ -50,21 +58,21 @@ least-requires c κs = search needs
 
 loop-holds : tie.Need-loop-holds Inv-loop μ-loop
 loop-holds c =
-    let g = c .before .before .before .before .args in
+    let g = c .before .before .before .before .before .args in
     let cost : c .before .widened .result ≡ ofOrder orderBits (g .weighting) (g .order) = c .before .widened .ensures ∙ c .before .before .order-bits .ensures in (
       omega arith,
       omega (arith, c .before .before .order-bits .ok),
       omega (arith, cost, start (g .weighting) (g .order) (g .indices .now)),
     )
 
-cast-coef-bits : tie.Need-cast-coef-bits Inv-loop μ-loop
-cast-coef-bits c = omega arith
+cast-of-coefficient : tie.Need-cast-of-coefficient Inv-loop μ-loop
+cast-of-coefficient c = omega arith
 
-shared-slice-read-coef-bits : tie.Need-shared-slice-read-coef-bits Inv-loop μ-loop
-shared-slice-read-coef-bits c = omega arith
+shared-slice-read-of-coefficient : tie.Need-shared-slice-read-of-coefficient Inv-loop μ-loop
+shared-slice-read-of-coefficient c = omega arith
 
-coef-bits-requires : tie.Need-coef-bits-requires Inv-loop μ-loop
-coef-bits-requires c κs = search needs
+of-coefficient-requires : tie.Need-of-coefficient-requires Inv-loop μ-loop
+of-coefficient-requires c κs = (refl, refl)
 
 widened-requires-2 : tie.Need-widened-requires-2 Inv-loop μ-loop
 widened-requires-2 c κs = search needs
@@ -80,18 +88,18 @@ loop-less c = omega arith
 
 loop-again : tie.Need-loop-again Inv-loop μ-loop
 loop-again c =
-    let l = c .before .before .before .before .loop in
-    let g = c .before .before .before .before .before .before .before .before .before .args in
-    let cost : c .widened2 .result ≡ cell coefBits (l .place) (getD (g .indices .now) (l .place) 0) = c .widened2 .ensures ∙ c .before .coef-bits .ensures in (
+    let l = c .before .before .before .before .before .loop in
+    let g = c .before .before .before .before .before .before .before .before .before .before .before .args in
+    let cost : c .widened2 .result ≡ cell coefBits (l .place) (getD (g .indices .now) (l .place) 0) = c .widened2 .ensures ∙ c .before .of-coefficient .ensures in (
       omega arith,
-      omega (arith, c .before .coef-bits .ok),
+      omega (arith, c .before .of-coefficient .ok),
       omega (arith, cost, l .inv .2, step (g .order) (g .indices .now) (l .place) (omega arith) (omega arith)),
     )
 
-returns : tie.Need-returns Inv-loop μ-loop
-returns c =
+returns-2 : tie.Need-returns-2 Inv-loop μ-loop
+returns-2 c =
     let l = c .before .loop in
-    let g = c .before .before .before .before .before .before .args in
+    let g = c .before .before .before .before .before .before .before .args in
     omega (arith, l .inv .2, end (g .order) (g .indices .now) (l .place) (omega arith))
 
 pub filter-cost-spec : {M : Type 1} → statement M
@@ -100,16 +108,17 @@ filter-cost-spec =
     (tie.spec
     Inv-loop
     μ-loop
+    returns
     order-bits-requires
     widened-requires
     least-requires
     loop-holds
-    cast-coef-bits
-    shared-slice-read-coef-bits
-    coef-bits-requires
+    cast-of-coefficient
+    shared-slice-read-of-coefficient
+    of-coefficient-requires
     widened-requires-2
     add-cost
     add-place
     loop-less
     loop-again
-    returns)
+    returns-2)
