@@ -1,14 +1,31 @@
 -- What none, one and two counted filters make of a spectrum, from the definition of counted filters on their bands.
 -- Assumes nothing.
-use mathlib.Core.Path.{_≡_, refl}
+use mathlib.Core.Path.{_≡_, refl, sym, _∙_, ap}
 use mathlib.Core.List.{List, [], _∷_, map}
-use Prim.Native.Nat.{ℕ}
-use lib.Ieee.{Float}
-use lib.ListN.{getD, take, drop}
+use Prim.Native.Nat.{ℕ, zero, suc, _≤_}
+use native.Mathlib.Nat.{le-of-suc-le-suc, not-suc-le-zero}
+use lib.Ieee.{Float, nan}
+use lib.ListN.{getD, take, drop, length}
+use lib.Seq.{getD-drop}
 use Rattle.tns_rows.specs.Bands.{inside, within}
+use Rattle.tns_rows.specs.declared.row.Band.{Band}
 use Rattle.tns_rows.specs.declared.row.Row.{Row}
-use Rattle.tns_decode.specs.Lattice.{linesDecoded, statesAfter}
+use Rattle.tns_rows.proofs.Frames.{SoundRow, band-kept}
+use Rattle.tns_rows.proofs.InPlace.{lines-unchanged, state-unchanged}
+use Rattle.tns_decode.specs.Lattice.{lineDecoded, linesDecoded, statesAfter}
 use Rattle.tns_decode.specs.Decoder.{decoderCoefficient, bandsDecoded, rowDecoded, atRest}
+
+-- order 0 changes neither lines nor states
+pub order-0 : (q s xs : List Float) → (s ≡ statesAfter q 0 s xs) × (xs ≡ linesDecoded q 0 s xs)
+unfolding linesDecoded statesAfter lineDecoded
+order-0 q s xs =
+    let f : List Float → Float → Float = λ s x. x in
+    let h : List Float → Float → List Float = λ s x. s in
+    (state-unchanged f h nan (λ s x. refl) (λ s x. refl) s xs, lines-unchanged f h nan (λ s x. refl) (λ s x. refl) s xs)
+
+-- nor, in its band, the spectrum
+pub order-0-within : (band : Band) (q s xs : List Float) → band .start ≤ band .stop → xs ≡ within band (linesDecoded q 0 s) xs
+order-0-within band q s xs h = band-kept band (linesDecoded q 0 s) xs h (order-0 q s (inside band xs) .1)
 
 module _ (row : Row) (orders indices : List ℕ) (lines : List Float) where
   pub none-decoded : lines ≡ rowDecoded row 0 orders indices lines
@@ -30,3 +47,25 @@ module _ (row : Row) (orders indices : List ℕ) (lines : List Float) where
       ≡ rowDecoded row 2 orders indices lines
   unfolding rowDecoded bandsDecoded
   two-decoded = refl
+
+  -- where the counted filters have order 0, nothing changes
+  module _ (sound : SoundRow row (length lines)) (first : getD orders 0 0 ≡ 0) where
+    first-idle : lines ≡ firstDone
+    first-idle =
+        let q = map decoderCoefficient (take 8 indices) in
+        order-0-within (row .first) q atRest lines (sound .first-fits .order)
+        ∙ ap (λ (o : ℕ). within (row .first) (linesDecoded q o atRest) lines) (sym first)
+
+    pub one-idle : lines ≡ rowDecoded row 1 orders indices lines
+    one-idle = first-idle ∙ one-decoded
+
+    pub all-idle : getD orders 1 0 ≡ 0 → (filters : ℕ) → filters ≤ 2 → lines ≡ rowDecoded row filters orders indices lines
+    all-idle second zero h = none-decoded
+    all-idle second (suc zero) h = one-idle
+    all-idle second (suc (suc zero)) h =
+        let q = map decoderCoefficient (take 8 (drop 8 indices)) in
+        first-idle
+        ∙ order-0-within (row .second) q firstStates firstDone (sound .second-fits .order)
+        ∙ ap (λ (o : ℕ). within (row .second) (linesDecoded q o firstStates) firstDone) (sym (getD-drop 1 orders 0 0 ∙ second))
+        ∙ two-decoded
+    all-idle second (suc (suc (suc filters))) h = absurd (not-suc-le-zero (le-of-suc-le-suc (le-of-suc-le-suc h)))

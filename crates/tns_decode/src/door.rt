@@ -105,6 +105,23 @@ fn row_decoded(row: Row, filters: u8, orders: &[u8], indices: &[u8], lines: &mut
     filter_decoded(row.second, orders[1], &indices[8..16], states, lines);
 }
 
+// The same, passing over filters that all have order 0.
+fn acting_decoded(row: Row, filters: u8, orders: &[u8], indices: &[u8], lines: &mut [f32])
+    requires { ⌜ SoundRow row (length (now lines)) ⌝ }
+    requires { ⌜ SoundSide filters (now orders) (now indices) ⌝ }
+    ensures { λ _. ⌜ now (lines .exit) ≡ rowDecoded row filters (now (orders .entry)) (now (indices .entry)) (now (lines .entry)) ⌝ }
+{
+    if orders[0] == 0 {
+        if filters == 1 {
+            return;
+        }
+        if orders[1] == 0 {
+            return;
+        }
+    }
+    row_decoded(row, filters, orders, indices, lines);
+}
+
 // Decodes a spectrum in place. Any numbers and lists may be given: a frame or side data that document
 // 01 refuses is refused by number and leaves every line as it was.
 pub fn decode(
@@ -126,7 +143,7 @@ pub fn decode(
             match side {
                 SideAnswer::Refused(why) => DecodeAnswer::Refused(why),
                 SideAnswer::Sound => {
-                    row_decoded(row, filters, orders, indices, lines);
+                    acting_decoded(row, filters, orders, indices, lines);
                     DecodeAnswer::Decoded
                 }
             }

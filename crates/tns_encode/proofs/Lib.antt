@@ -1,5 +1,6 @@
 -- The laws that belong to no one function.
 pub mod Lists
+pub mod Filters
 pub mod Limits
 pub mod Frames
 pub mod Outside

@@ -1,3 +1,4 @@
 -- The laws that belong to no one function.
+pub mod Lowest
 pub mod Sides
 pub mod Determined

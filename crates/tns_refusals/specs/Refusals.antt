@@ -55,6 +55,11 @@ unfoldable pub lowestOver : ℕ → ℕ → List ℕ → Over
 lowestOver limit place [] = Nowhere
 lowestOver limit place (x ∷ xs) = cond (ltb limit x) (At place x) (lowestOver limit (suc place) xs)
 
+-- no number is over it
+abbrev pub isNowhere : Over → Bool
+isNowhere Nowhere = true
+isNowhere (At place found) = false
+
 abbrev pub checkAt : {A : Type 0} → ℕ → Over → Verdict A → Verdict A
 checkAt number Nowhere next = next
 checkAt number (At place found) next = refusedAt number place found

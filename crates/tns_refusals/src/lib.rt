@@ -1,7 +1,8 @@
 // The refusals of document 01, for every call of the library, and the one place that decides 4 to 7,
 // for decode and cost. Assumes nothing.
 ghost use mathlib.Core.Path.{_≡_};
-ghost use Rattle.tns_refusals.specs.Refusals.{noFault, says, numberIn, placeIn, foundIn, lowestOver, sideChecks, sideSays};
+ghost use mathlib.Core.Bool.{false};
+ghost use Rattle.tns_refusals.specs.Refusals.{noFault, says, numberIn, placeIn, foundIn, lowestOver, isNowhere, sideChecks, sideSays};
 
 // Why a call is refused, in the order of document 01's numbers 1 to 8. A refusal of an order or an
 // index holds the lowest bad place and the number found there.
@@ -72,19 +73,41 @@ pub enum Over {
     At { place: usize, found: u8 },
 }
 
+// Whether no number is over `limit`. It has no early way out, so that the compiler can compare them
+// all at once.
+fn none_over(numbers: &[u8], limit: u8) -> bool
+    ensures { λ r. ⌜ r ≡ isNowhere (lowestOver limit 0 (now (numbers .entry))) ⌝ }
+{
+    let mut none = true;
+    for i in 0..numbers.len() {
+        if numbers[i] > limit {
+            none = false;
+        }
+    }
+    none
+}
+
+// The lowest place whose number is over `limit`, where there is one: the search needs no other end.
+fn first_over(numbers: &[u8], limit: u8) -> Over
+    requires { ⌜ isNowhere (lowestOver limit 0 (now numbers)) ≡ false ⌝ }
+    ensures { λ r. ⌜ r ≡ lowestOver limit 0 (now (numbers .entry)) ⌝ }
+{
+    let mut place = 0usize;
+    while numbers[place] <= limit {
+        place += 1;
+    }
+    let found = numbers[place];
+    Over::At { place, found }
+}
+
 // The lowest place whose number is over `limit`.
 fn lowest_over(numbers: &[u8], limit: u8) -> Over
     ensures { λ r. ⌜ r ≡ lowestOver limit 0 (now (numbers .entry)) ⌝ }
 {
-    let mut place = 0usize;
-    while place < numbers.len() {
-        let found = numbers[place];
-        if found > limit {
-            return Over::At { place, found };
-        }
-        place += 1;
+    if none_over(numbers, limit) {
+        return Over::Nowhere;
     }
-    Over::Nowhere
+    first_over(numbers, limit)
 }
 
 // What the checks 4 to 7 say.

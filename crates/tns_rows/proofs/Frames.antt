@@ -7,7 +7,8 @@ use Prim.Native.Nat.{ℕ, zero, suc, _+_, _-_, _≤_, _<_}
 use native.Mathlib.Omega.{arith}
 use lib.Dec.{ltb, leb, eqb}
 use borrow.Author.Tests.{ltb-false, leb-true, eqb-true}
-use lib.ListN.{getD, take, drop}
+use lib.Ieee.{Float}
+use lib.ListN.{getD, take, drop, take-append-drop}
 use lib.Seq.{drop-drop}
 use Rattle.tns_tables.specs.Rules.{every}
 use Rattle.tns_tables.proofs.Costs.{every-at}
@@ -15,7 +16,7 @@ use Rattle.tns_tables.proofs.Outside.{and-left, and-right}
 use Rattle.tns_refusals.specs.Refusals.{Verdict, accepted, refused, refusedAt, noFault, check}
 use Rattle.tns_refusals.proofs.Sides.{settle}
 use Rattle.tns_rows.specs.Durations.{Kept, kept, durationOf}
-use Rattle.tns_rows.specs.Bands.{tenMsRows, sevenPointFiveMsRows, rowsOf, bandFrom, bandsOf, rowOf, bandOf, noBand, lastStop, frameChecks, frameOf, askedIn, askedBand}
+use Rattle.tns_rows.specs.Bands.{tenMsRows, sevenPointFiveMsRows, rowsOf, bandFrom, bandsOf, rowOf, bandOf, noBand, lastStop, frameChecks, frameOf, inside, within, askedIn, askedBand}
 use Rattle.tns_rows.specs.declared.duration.Duration.{Duration}
 use Rattle.tns_rows.specs.declared.duration.Duration.the-variants.{Ten, SevenPointFive}
 use Rattle.tns_rows.specs.declared.row.Band.{Band}
@@ -126,3 +127,11 @@ pub band-back : {A : Type 0} (band : Band) (xs ys : List A) → band .start ≤ 
 band-back {A} band xs ys h =
     let e : band .start + (band .stop - band .start) ≡ band .stop = omega arith in
     ap (λ (l : List A). take (band .start) xs ++ (ys ++ l)) (drop-drop (band .stop - band .start) (band .start) xs ∙ ap (λ (n : ℕ). drop n xs) e)
+
+-- a change that leaves the lines of a band as they are leaves the spectrum as it is
+pub band-kept : (band : Band) (change : List Float → List Float) (xs : List Float) → band .start ≤ band .stop → inside band xs ≡ change (inside band xs) → xs ≡ within band change xs
+band-kept band change xs h e =
+    sym (take-append-drop (band .start) xs)
+    ∙ ap (λ (l : List Float). take (band .start) xs ++ l) (sym (take-append-drop (band .stop - band .start) (drop (band .start) xs)))
+    ∙ band-back band xs (inside band xs) h
+    ∙ ap (λ (l : List Float). take (band .start) xs ++ (l ++ drop (band .stop) xs)) e

@@ -10,9 +10,6 @@ use Rattle.tns_analysis.specs.declared.recursion.Predictor.{Predictor}
 use borrow.Author.Needs.{needs}
 use Rattle.tns_analysis.proofs.recursion.predict.Statement.{statement}
 use Rattle.tns_analysis.proofs.recursion.predict.Tie as tie
-use Rattle.tns_analysis.proofs.recursion.predict.Reads as reads
-use Rattle.tns_analysis.proofs.recursion.predict.Lts as lts
-use Rattle.tns_analysis.proofs.recursion.next_step.Reads as next-step-reads
 
 -- the first step, from the row that the code writes out
 first : (r : List Float) (n : Predictor) → n ≡ stepped r 1 (unpredicted r) → n ≡ predicted r 1
@@ -24,43 +21,33 @@ next : (r : List Float) (k : ℕ) (p n : Predictor) → n ≡ stepped r (suc k) 
 unfolding predicted
 next r k p n e h = e ∙ ap (stepped r (suc k)) h
 
--- src/recursion.rt:68:16
 array-read-t14 : tie.Need-array-read-t14
 array-read-t14 c = search needs
 
--- src/recursion.rt:70:9
 next-step-requires : tie.Need-next-step-requires
 next-step-requires c κs = search needs
 
--- src/recursion.rt:71:9
 next-step-requires-2 : tie.Need-next-step-requires-2
 next-step-requires-2 c κs = search needs
 
--- src/recursion.rt:72:9
 next-step-requires-3 : tie.Need-next-step-requires-3
 next-step-requires-3 c κs = search needs
 
--- src/recursion.rt:73:9
 next-step-requires-4 : tie.Need-next-step-requires-4
 next-step-requires-4 c κs = search needs
 
--- src/recursion.rt:74:9
 next-step-requires-5 : tie.Need-next-step-requires-5
 next-step-requires-5 c κs = search needs
 
--- src/recursion.rt:75:9
 next-step-requires-6 : tie.Need-next-step-requires-6
 next-step-requires-6 c κs = search needs
 
--- src/recursion.rt:76:9
 next-step-requires-7 : tie.Need-next-step-requires-7
 next-step-requires-7 c κs = search needs
 
--- src/recursion.rt:77:5
 next-step-requires-8 : tie.Need-next-step-requires-8
 next-step-requires-8 c κs = search needs
 
--- src/recursion.rt:63:1
 returns : tie.Need-returns
 unfolding unpredicted tab
 returns c =

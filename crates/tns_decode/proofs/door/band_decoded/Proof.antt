@@ -4,10 +4,10 @@ use mathlib.Core.Path.{_≡_, refl, sym, _∙_, ap}
 use mathlib.Core.List.{List}
 use Prim.Native.Nat.{ℕ}
 use borrow.Author.Needs.{needs}
-use lib.Ieee.{Float, nan}
-use Rattle.tns_rows.proofs.InPlace.{lines-unchanged, state-unchanged}
+use lib.Ieee.{Float}
 use Rattle.tns_rows.proofs.Orders.{only-8-left}
-use Rattle.tns_decode.specs.Lattice.{lineDecoded, linesDecoded, statesAfter}
+use Rattle.tns_decode.specs.Lattice.{linesDecoded, statesAfter}
+use Rattle.tns_decode.proofs.Filters.{order-0}
 use Rattle.tns_decode.proofs.door.band_decoded.Statement.{statement}
 use Rattle.tns_decode.proofs.door.band_decoded.Tie as tie
 
@@ -15,14 +15,6 @@ use Rattle.tns_decode.proofs.door.band_decoded.Tie as tie
 arm : (order known : ℕ) → order ≡ known → (q s xs r ys : List Float)
     → (r ≡ statesAfter q known s xs) × (ys ≡ linesDecoded q known s xs) → (r ≡ statesAfter q order s xs) × (ys ≡ linesDecoded q order s xs)
 arm order known e q s xs r ys p = rw e p
-
--- order 0 changes neither lines nor states
-unchanged : (q s xs : List Float) → (s ≡ statesAfter q 0 s xs) × (xs ≡ linesDecoded q 0 s xs)
-unfolding linesDecoded statesAfter lineDecoded
-unchanged q s xs =
-    let f : List Float → Float → Float = λ s x. x in
-    let h : List Float → Float → List Float = λ s x. s in
-    (state-unchanged f h nan (λ s x. refl) (λ s x. refl) s xs, lines-unchanged f h nan (λ s x. refl) (λ s x. refl) s xs)
 
 lines-decoded-requires : tie.Need-lines-decoded-requires
 lines-decoded-requires c κs = search needs
@@ -51,7 +43,7 @@ lines-decoded-requires-8 c κs = search needs
 returns : tie.Need-returns
 returns c =
     let g = c .before .before .args in
-    arm (g .order) 0 (c .match .keys1) (g .q) (g .states) (g .lines .now) _ _ (unchanged (g .q) (g .states) (g .lines .now))
+    arm (g .order) 0 (c .match .keys1) (g .q) (g .states) (g .lines .now) _ _ (order-0 (g .q) (g .states) (g .lines .now))
 
 same-length : tie.Need-same-length
 same-length c = search needs

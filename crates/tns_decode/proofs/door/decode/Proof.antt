@@ -47,8 +47,8 @@ enum-known-side c = search needs
 enum-told : tie.Need-enum-told
 enum-told c = search needs
 
-row-decoded-requires : tie.Need-row-decoded-requires
-row-decoded-requires c κs =
+acting-decoded-requires : tie.Need-acting-decoded-requires
+acting-decoded-requires c κs =
     let told = c .before in
     let frame = told .before .before .before .before in
     let g = frame .before .before .before .before .before .before .args in (
@@ -85,7 +85,7 @@ returns-3 c =
     let rest = frame-passed (g .duration) (g .bandwidth) (g .filters) (g .orders .now) (g .indices .now) (length (g .lines .now)) (frame .frame2 .given .0 .0) (passed frame) in
     let e = side-passed told ∙ sym (rest .1) in (
       e,
-      c .before .before .row-decoded .ensures
+      c .before .before .acting-decoded .ensures
           ∙ ap (λ (row : Row). rowDecoded row (g .filters) (g .orders .now) (g .indices .now) (g .lines .now)) (rest .0)
           ∙ accepted-spectrum (g .duration) (g .bandwidth) (g .filters) (g .orders .now) (g .indices .now) (g .lines .now) e,
     )
@@ -100,7 +100,7 @@ decode-spec =
     check-side-requires
     enum-known-side
     enum-told
-    row-decoded-requires
+    acting-decoded-requires
     returns
     returns-2
     same-length

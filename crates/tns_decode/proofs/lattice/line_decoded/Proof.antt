@@ -13,8 +13,6 @@ use Rattle.tns_decode.specs.Lattice.{stage, stagesBelow, passing, lineDe
 use Rattle.tns_decode.specs.declared.lattice.Passed.{Passed}
 use Rattle.tns_decode.proofs.lattice.line_decoded.Statement.{statement}
 use Rattle.tns_decode.proofs.lattice.line_decoded.Tie as tie
-use Rattle.tns_decode.proofs.lattice.line_decoded.Reads as reads
-use Rattle.tns_decode.proofs.lattice.line_decoded.Lts as lts
 
 -- t after the stage below k
 abbrev below : List Float → ℕ → Float → List Float → Float
@@ -45,86 +43,66 @@ Inv-loop order line q last state₀ t₀ k₀ state t k = (k ≤ last) × (stage
 abbrev μ-loop : tie.MeasureT-loop
 μ-loop order line q last state₀ t₀ k₀ state t k = k
 
--- src/lattice.rt:19:16
 sub-last : tie.Need-sub-last Inv-loop μ-loop
 sub-last c = omega arith
 
--- src/lattice.rt:21:24
 mul-t : tie.Need-mul-t Inv-loop μ-loop
 mul-t c = omega arith
 
--- src/lattice.rt:21:24
 array-read-t : tie.Need-array-read-t Inv-loop μ-loop
 array-read-t c = omega arith
 
--- src/lattice.rt:21:34
 mul-t-2 : tie.Need-mul-t-2 Inv-loop μ-loop
 mul-t-2 c = omega arith
 
--- src/lattice.rt:21:34
 array-read-t-2 : tie.Need-array-read-t-2 Inv-loop μ-loop
 array-read-t-2 c = omega arith
 
--- src/lattice.rt:23:5
 loop-holds : tie.Need-loop-holds Inv-loop μ-loop
 loop-holds c = (omega arith, refl)
 
--- src/lattice.rt:24:9
 sub-k : tie.Need-sub-k Inv-loop μ-loop
 sub-k c = omega arith
 
--- src/lattice.rt:25:19
 mul-old : tie.Need-mul-old Inv-loop μ-loop
 mul-old c = omega arith
 
--- src/lattice.rt:25:19
 array-read-old : tie.Need-array-read-old Inv-loop μ-loop
 array-read-old c = omega arith
 
--- src/lattice.rt:26:17
 mul-t-3 : tie.Need-mul-t-3 Inv-loop μ-loop
 mul-t-3 c = omega arith
 
--- src/lattice.rt:26:17
 array-read-t-3 : tie.Need-array-read-t-3 Inv-loop μ-loop
 array-read-t-3 c = omega arith
 
--- src/lattice.rt:27:24
 mul-state : tie.Need-mul-state Inv-loop μ-loop
 mul-state c = omega arith
 
--- src/lattice.rt:27:24
 array-read-state : tie.Need-array-read-state Inv-loop μ-loop
 array-read-state c = omega arith
 
--- src/lattice.rt:27:15
 add-state : tie.Need-add-state Inv-loop μ-loop
 add-state c = omega arith
 
--- src/lattice.rt:27:9
 mul-state-2 : tie.Need-mul-state-2 Inv-loop μ-loop
 mul-state-2 c = omega arith
 
--- src/lattice.rt:27:9
 array-write-state : tie.Need-array-write-state Inv-loop μ-loop
 array-write-state c = omega arith
 
--- src/lattice.rt:23:5
 loop-less : tie.Need-loop-less Inv-loop μ-loop
 loop-less c = omega arith
 
--- src/lattice.rt:23:5
 loop-again : tie.Need-loop-again Inv-loop μ-loop
 loop-again c =
     let l = c .before .loop in
     let g = c .before .before .args in
     (omega arith, l .inv .1 ∙ one-stage (g .t1) (l .k) (l .t) (l .state) (omega arith))
 
--- src/lattice.rt:29:5
 array-write-state-2 : tie.Need-array-write-state-2 Inv-loop μ-loop
 array-write-state-2 c = omega arith
 
--- src/lattice.rt:15:1
 returns : tie.Need-returns Inv-loop μ-loop
 returns c =
     let l = c .before .loop in

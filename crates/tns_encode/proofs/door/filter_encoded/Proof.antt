@@ -2,43 +2,23 @@
 -- Assumes nothing.
 use mathlib.Core.Path.{_≡_, refl, sym, _∙_, ap}
 use mathlib.Core.List.{List, _++_}
-use Prim.Native.Nat.{ℕ, _-_, _≤_}
+use Prim.Native.Nat.{_-_}
 use borrow.Author.Needs.{needs}
-use lib.Ieee.{Float, nan}
-use lib.ListN.{take, drop, take-append-drop}
+use lib.Ieee.{Float}
+use lib.ListN.{take, drop}
 use Rattle.tns_rows.specs.Bands.{inside, within}
-use Rattle.tns_rows.specs.declared.row.Band.{Band}
 use Rattle.tns_rows.proofs.Frames.{band-back}
-use Rattle.tns_rows.proofs.InPlace.{lines-unchanged, state-unchanged}
-use Rattle.tns_encode.specs.Lattice.{lineEncoded, linesEncoded, statesAfter}
+use Rattle.tns_encode.specs.Lattice.{linesEncoded, statesAfter}
+use Rattle.tns_encode.proofs.Filters.{order-0, order-0-within}
 use Rattle.tns_encode.proofs.door.filter_encoded.Statement.{statement}
 use Rattle.tns_encode.proofs.door.filter_encoded.Tie as tie
-
--- order 0 changes neither lines nor states
-unchanged : (q s xs : List Float) → (s ≡ statesAfter q 0 s xs) × (xs ≡ linesEncoded q 0 s xs)
-unfolding linesEncoded statesAfter lineEncoded
-unchanged q s xs =
-    let f : List Float → Float → Float = λ s x. x in
-    let h : List Float → Float → List Float = λ s x. s in
-    (state-unchanged f h nan (λ s x. refl) (λ s x. refl) s xs, lines-unchanged f h nan (λ s x. refl) (λ s x. refl) s xs)
-
--- a change that leaves the band as it was leaves the whole
-kept : (b : Band) (xs ys : List Float) → b .start ≤ b .stop → inside b xs ≡ ys → xs ≡ take (b .start) xs ++ (ys ++ drop (b .stop) xs)
-kept b xs ys h e =
-    let m = b .stop - b .start in
-    let rest = drop (b .start) xs in
-    sym (take-append-drop (b .start) xs)
-    ∙ ap (λ (l : List Float). take (b .start) xs ++ l) (sym (take-append-drop m rest))
-    ∙ band-back b xs (inside b xs) h
-    ∙ ap (λ (l : List Float). take (b .start) xs ++ (l ++ drop (b .stop) xs)) e
 
 returns : tie.Need-returns
 returns c =
     let start = c .before .before in
     let g = start .args in
     let xs = g .lines .now in
-    let none = unchanged (g .q) (g .states) (inside (g .band) xs) in
-    rw (c .if1 .taken) (none .0, kept (g .band) xs (linesEncoded (g .q) 0 (g .states) (inside (g .band) xs)) (start .pre .0 .order) (none .1))
+    rw (c .if1 .taken) (order-0 (g .q) (g .states) (inside (g .band) xs) .0, order-0-within (g .band) (g .q) (g .states) xs (start .pre .0 .order))
 
 mul-band-encoded : tie.Need-mul-band-encoded
 mul-band-encoded c = search needs

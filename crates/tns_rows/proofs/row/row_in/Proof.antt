@@ -11,9 +11,6 @@ use Rattle.tns_rows.specs.declared.duration.Duration.the-variants.{Ten, 
 use borrow.Author.Needs.{needs}
 use Rattle.tns_rows.proofs.row.row_in.Statement.{statement}
 use Rattle.tns_rows.proofs.row.row_in.Tie as tie
-use Rattle.tns_rows.proofs.row.row_in.Reads as reads
-use Rattle.tns_rows.proofs.row.row_in.Lts as lts
-use Rattle.tns_rows.proofs.row.bands_of.Reads as bands-of-reads
 
 above : (n b : ℕ) → n ≤ b → (b ≡ n → ⊥) → suc n ≤ b
 above n b h k = omega arith
@@ -21,81 +18,64 @@ above n b h k = omega arith
 past : (table : List (List ℕ)) (bandwidth : ℕ) → length table ≤ bandwidth → bandsOf (replicate 8 0) ≡ bandsOf (getD table bandwidth [])
 past table bandwidth h = sym (ap bandsOf (List·getD-eq-default table [] {n = bandwidth} h))
 
--- src/row.rt:87:23
 array-copy-out-bands-of : tie.Need-array-copy-out-bands-of
 array-copy-out-bands-of c = search needs
 
--- src/row.rt:87:14
 bands-of-requires : tie.Need-bands-of-requires
 bands-of-requires c κs = search needs
 
--- src/row.rt:88:23
 array-copy-out-bands-of-2 : tie.Need-array-copy-out-bands-of-2
 array-copy-out-bands-of-2 c = search needs
 
--- src/row.rt:88:14
 bands-of-requires-2 : tie.Need-bands-of-requires-2
 bands-of-requires-2 c κs = search needs
 
--- src/row.rt:89:23
 array-copy-out-bands-of-3 : tie.Need-array-copy-out-bands-of-3
 array-copy-out-bands-of-3 c = search needs
 
--- src/row.rt:89:14
 bands-of-requires-3 : tie.Need-bands-of-requires-3
 bands-of-requires-3 c κs = search needs
 
--- src/row.rt:90:23
 array-copy-out-bands-of-4 : tie.Need-array-copy-out-bands-of-4
 array-copy-out-bands-of-4 c = search needs
 
--- src/row.rt:90:14
 bands-of-requires-4 : tie.Need-bands-of-requires-4
 bands-of-requires-4 c κs = search needs
 
--- src/row.rt:91:23
 array-copy-out-bands-of-5 : tie.Need-array-copy-out-bands-of-5
 array-copy-out-bands-of-5 c = search needs
 
--- src/row.rt:91:14
 bands-of-requires-5 : tie.Need-bands-of-requires-5
 bands-of-requires-5 c κs = search needs
 
--- src/row.rt:92:14
 bands-of-requires-6 : tie.Need-bands-of-requires-6
 bands-of-requires-6 c κs = search needs
 
--- src/row.rt:83:1
 returns : tie.Need-returns
 returns c =
     let at = c .before .before in
     c .bands-of .ensures ∙ sym (ap (λ (n : ℕ). bandsOf (getD (at .before .args .t1) n [])) (at .match .keys1))
 
--- src/row.rt:83:1
 returns-2 : tie.Need-returns-2
 returns-2 c =
     let at = c .before .before in
     c .bands-of2 .ensures ∙ sym (ap (λ (n : ℕ). bandsOf (getD (at .before .args .t1) n [])) (at .match .keys2))
 
--- src/row.rt:83:1
 returns-3 : tie.Need-returns-3
 returns-3 c =
     let at = c .before .before in
     c .bands-of3 .ensures ∙ sym (ap (λ (n : ℕ). bandsOf (getD (at .before .args .t1) n [])) (at .match .keys3))
 
--- src/row.rt:83:1
 returns-4 : tie.Need-returns-4
 returns-4 c =
     let at = c .before .before in
     c .bands-of4 .ensures ∙ sym (ap (λ (n : ℕ). bandsOf (getD (at .before .args .t1) n [])) (at .match .keys4))
 
--- src/row.rt:83:1
 returns-5 : tie.Need-returns-5
 returns-5 c =
     let at = c .before .before in
     c .bands-of5 .ensures ∙ sym (ap (λ (n : ℕ). bandsOf (getD (at .before .args .t1) n [])) (at .match .keys5))
 
--- src/row.rt:83:1
 returns-6 : tie.Need-returns-6
 returns-6 c =
     let at = c .before in

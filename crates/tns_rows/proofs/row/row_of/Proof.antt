@@ -11,37 +11,28 @@ use Rattle.tns_rows.specs.declared.duration.Duration.the-variants.{Ten, 
 use borrow.Author.Needs.{needs}
 use Rattle.tns_rows.proofs.row.row_of.Statement.{statement}
 use Rattle.tns_rows.proofs.row.row_of.Tie as tie
-use Rattle.tns_rows.proofs.row.row_of.Reads as reads
-use Rattle.tns_rows.proofs.row.row_of.Lts as lts
-use Rattle.tns_rows.proofs.row.row_in.Reads as row-in-reads
 
 own : (duration known : Duration) (bandwidth : ℕ) → duration ≡ known → bandsOf (getD (rowsOf known) bandwidth []) ≡ rowOf duration bandwidth
 unfolding rowOf
 own duration known bandwidth e = rw e
 
--- src/row.rt:30:5
 enum-told : tie.Need-enum-told
 enum-told c = search needs
 
--- src/row.rt:101:26
 row-in-requires : tie.Need-row-in-requires
 row-in-requires c κs = search needs
 
--- src/row.rt:38:5
 enum-told-2 : tie.Need-enum-told-2
 enum-told-2 c = search needs
 
--- src/row.rt:102:37
 row-in-requires-2 : tie.Need-row-in-requires-2
 row-in-requires-2 c κs = search needs
 
--- src/row.rt:97:1
 returns : tie.Need-returns
 returns c =
     let g = c .before .before .before .args in
     c .row-in .ensures ∙ own (g .duration) Ten (g .bandwidth) (c .before .enum-told .given .1)
 
--- src/row.rt:97:1
 returns-2 : tie.Need-returns-2
 returns-2 c =
     let g = c .before .before .before .args in
