@@ -63,12 +63,16 @@ bandOf row (suc (suc filter)) = noBand
 abbrev pub lastStop : Row → ℕ
 lastStop row = max (row .first .stop) (row .second .stop)
 
--- 1: duration code is not 0 or 1. 2: bandwidth over 4. 3: spectrum shorter than the row's last stop, or longer than the duration's longest
+-- 3: spectrum shorter than the row's last stop, or longer than the duration's longest
+abbrev pub lengthCheck : {A : Type 0} → Duration → ℕ → ℕ → Verdict A → Verdict A
+lengthCheck duration bandwidth lines next = check 3 (ltb lines (lastStop (rowOf duration bandwidth)) || ltb (kept duration .longest) lines) next
+
+-- 1: duration code is not 0 or 1. 2: bandwidth over 4. 3: the length
 unfoldable pub frameChecks : {A : Type 0} → ℕ → ℕ → ℕ → Verdict A → Verdict A
 frameChecks duration bandwidth lines next =
     check 1 (ltb 1 duration)
     (check 2 (ltb 4 bandwidth)
-    (check 3 (ltb lines (lastStop (rowOf (durationOf duration) bandwidth)) || ltb (kept (durationOf duration) .longest) lines)
+    (lengthCheck (durationOf duration) bandwidth lines
     next))
 
 -- what the shared check of 1 to 3 says: the row of a frame that it finds no fault with

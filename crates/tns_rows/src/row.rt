@@ -3,13 +3,13 @@
 use crate::duration::Duration;
 use crate::duration::SevenPointFiveMs;
 use crate::duration::TenMs;
-use crate::duration::duration_of;
 use crate::duration::longest;
 use tns_refusals::Refusal;
 ghost use mathlib.Core.Path.{_≡_};
 ghost use mathlib.Core.List.{[]};
 ghost use lib.ListN.{length, getD};
-ghost use Rattle.tns_rows.specs.Bands.{bandsOf, rowOf, noBand, bandOf, lastStop, frameOf, frameSays, inside, askedBand};
+ghost use Rattle.tns_refusals.specs.Refusals.{accepted};
+ghost use Rattle.tns_rows.specs.Bands.{bandsOf, rowOf, noBand, bandOf, lastStop, lengthCheck, frameOf, frameSays, inside, askedBand};
 
 // A band: its lines are those from start to stop, stop not included. Two cuts make three subbands.
 pub struct Band {
@@ -117,8 +117,22 @@ pub enum FrameAnswer {
     Refused(Refusal),
 }
 
+// Check 3 of a frame whose duration and bandwidth are known.
+fn frame_of(duration: Duration, bandwidth: u8, lines: usize) -> FrameAnswer
+    ensures { λ r. ⌜ frameSays r ≡ lengthCheck duration bandwidth lines (accepted (rowOf duration bandwidth)) ⌝ }
+{
+    let row = row_of(duration, bandwidth);
+    if lines < last_stop(row) {
+        return FrameAnswer::Refused(Refusal::SpectrumLength);
+    }
+    if lines > longest(duration) {
+        return FrameAnswer::Refused(Refusal::SpectrumLength);
+    }
+    FrameAnswer::Sound(row)
+}
+
 // The checks of a frame that encode and decode share: refusals 1 to 3, in number order, the first
-// standing.
+// standing. Each duration is a literal in its call, so that its numbers are constants there.
 pub fn check_frame(duration: u8, bandwidth: u8, lines: usize) -> FrameAnswer
     ensures { λ r. ⌜ frameSays r ≡ frameOf duration bandwidth lines ⌝ }
 {
@@ -128,14 +142,10 @@ pub fn check_frame(duration: u8, bandwidth: u8, lines: usize) -> FrameAnswer
     if bandwidth > 4 {
         return FrameAnswer::Refused(Refusal::Bandwidth);
     }
-    let row = row_of(duration_of(duration), bandwidth);
-    if lines < last_stop(row) {
-        return FrameAnswer::Refused(Refusal::SpectrumLength);
+    if duration == 0 {
+        return frame_of(Duration::Ten, bandwidth, lines);
     }
-    if lines > longest(duration_of(duration)) {
-        return FrameAnswer::Refused(Refusal::SpectrumLength);
-    }
-    FrameAnswer::Sound(row)
+    frame_of(Duration::SevenPointFive, bandwidth, lines)
 }
 
 // The band of a filter in a row, and none of a third filter.
