@@ -37,7 +37,9 @@ typedef struct {
 } tns_answer;
 
 /* Analyses and filters a spectrum in place. Refusals 1 to 3. Writes the side data (weighting, filter
- * count, two orders, sixteen indices) and the sixteen coefficients that the indices stand for. */
+ * count, two orders, sixteen indices) and the sixteen coefficients that the indices stand for. Where
+ * the lines are finite and at most 2^m in size, each filtered line is within 2^(m-13) of the filter
+ * worked without rounding, for whole m from -126 to 119. */
 tns_answer tns_encode(uint8_t duration, uint8_t bandwidth, uint64_t bits, bool near_nyquist,
                       float *lines, size_t lines_len, uint8_t side[20], float coefficients[16]);
 

@@ -102,6 +102,9 @@ impl Bandwidth {
 
 /// Analyses a spectrum and filters it in place. `bits` is the frame's size; refused by
 /// [`Refusal::SpectrumLength`] alone.
+///
+/// Where the lines are finite and at most 2^m in size, each filtered line is within 2^(m-13) of the
+/// filter worked without rounding, for whole m from -126 to 119.
 pub fn encode(
     duration: Duration,
     bandwidth: Bandwidth,
