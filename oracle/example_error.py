@@ -183,7 +183,8 @@ def example():
     wanted = [f"0x{p:08x}" for p in before]
     wanted += [f"0x{filtered[p - first]:08x}" for part in SHOWN for p in part]
     wanted += [whole(exact[p - first]) for part in SHOWN for p in part]
-    written = re.findall(r"0x[0-9a-f]{8}|pos \d{20,}|negsuc \d{20,}", text)
+    wanted += [str(abs(away[p - first])) for part in SHOWN for p in part]
+    written = re.findall(r"0x[0-9a-f]{8}|(?:pos |negsuc |)\d{20,}", text)
     patterns = [f"0x{p:08x}" for p in coefficients]
     same = written == wanted[: len(before)] + patterns + wanted[len(before) :]
     print(f"example: {WORKED.name} has these numbers: {'yes' if same else 'no'}")

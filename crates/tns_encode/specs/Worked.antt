@@ -2,14 +2,14 @@
 -- lines). The side data and the filtered lines are those that the Rust gave for it. The exact lines are those of oracle/example_error.py, a
 -- calculation of its own. Shown are lines at the seam of the bands, where the states carry over, and at the end. Assumes nothing.
 use mathlib.Core.Path.{_≡_, refl}
-use mathlib.Core.Bool.{Bool, true, false}
+use mathlib.Core.Bool.{false}
 use mathlib.Core.List.{List, [], _∷_, _++_, map}
 use Prim.Native.Nat.{ℕ}
-use lib.ListN.{take, drop, replicate}
-use lib.IntN.{ℤ, pos, negsuc}
+use lib.ListN.{take, drop}
+use lib.IntN.{ℤ, pos, negsuc, natAbs, _-ℤ_}
 use lib.Ieee.{Float, binary32, ofBits, toBits, add, sub, mul, div, neg, eq, ne, lt, le}
 use Rattle.tns_rounding.specs.Units.{inUnits}
-use Rattle.tns_tables.specs.Quantizer.{plusZero, notAbove, indexOf, coefficientOf, orderFrom, orderOf}
+use Rattle.tns_tables.specs.Quantizer.{notAbove, indexOf, coefficientOf, orderFrom, orderOf}
 use Rattle.tns_rows.specs.Durations.{weightingOf}
 use Rattle.tns_rows.specs.Bands.{rowOf, frameChecks, inside}
 use Rattle.tns_rows.specs.Lines.{linesThrough, stateThrough}
@@ -23,8 +23,8 @@ use Rattle.tns_analysis.specs.Reflections.{powerFrom, power, damped, rowBelow, 
 use Rattle.tns_analysis.specs.Analysis.{recordOf, reflectionsOf}
 use Rattle.tns_encode.specs.Quantized.{quantizedOf, absent}
 use Rattle.tns_encode.specs.Lattice.{stage, stagesTo, lineEncoded, linesEncoded, statesAfter}
-use Rattle.tns_encode.specs.Encoder.{filterOf, secondOf, sideOf, twoEncoded, rowEncoded, encodeVerdict, spectrumEncoded, sideIn, atRest}
-use Rattle.tns_encode.specs.Exact.{exactStage, exactStagesTo, lineExact, linesExact, statesExact, firstExact, exactCarried, secondExact, exactRest}
+use Rattle.tns_encode.specs.Encoder.{filterOf, secondOf, sideOf, twoEncoded, rowEncoded, encodeVerdict, spectrumEncoded, sideIn}
+use Rattle.tns_encode.specs.Exact.{exactStage, exactStagesTo, lineExact, linesExact, statesExact, firstExact, exactCarried, secondExact}
 use Rattle.tns_encode.specs.declared.door.SideData.{SideData}
 
 abbrev floats : List ℕ → List Float
@@ -110,12 +110,32 @@ exactLines =
     negsuc 36586070607785241451533892104290214645207553962421039942049332159521465364042570752260922310591303162789887 ∷
     []
 
+-- how far the two are apart, in the same units: no line shown is exact
+abbrev distances : List Float → List ℤ → List ℕ
+distances [] YS = []
+distances (y ∷ ys) [] = []
+distances (y ∷ ys) (Y ∷ YS) = natAbs (inUnits 357 y -ℤ Y) ∷ distances ys YS
+
+abbrev apart : List ℕ
+apart =
+    8373315328433310669138400608364999141878492891556347091996159351897948063103293939757782354484002816 ∷
+    1445369172871968852841253029920334608107712652327020972351747135747358820993858978910064632901140480 ∷
+    5609670783039681358806899678623951943233128068868945080873799787345473642071479499762104449256914944 ∷
+    1449989413979400233819424633901408338407736933406113109193797556769361053820602880459540614648692736 ∷
+    4132625193639707506449195948031123305929348395040334398151815595865770750164880272005637434683424768 ∷
+    7204254753275084150589612808886524196855021202420132417441424096807609137003597536713518450395316224 ∷
+    1761630450424324894763723191767290832723991727402474059310293563505469691830875906067457762266185728 ∷
+    3589875632891525761520772758039381083379217337015092883579640661675519452644389069553908670193991680 ∷
+    2100864443614960476016369484066071510899630925887178305702302799484836582463282606997974700632571904 ∷
+    []
+
 pub record Worked : Type 0 where
   pub orders : side .orders ≡ 6 ∷ 8 ∷ []
   pub coefficients : patterns (side .coefficients) ≡ coefficientPatterns
   pub filtered : patterns (shown (inside (row .first) after) (inside (row .second) after)) ≡ filteredPatterns
+  pub distant : distances (shown (inside (row .first) after) (inside (row .second) after)) (shown (firstExact row side frame) (secondExact row side frame)) ≡ apart
   pub exactly : shown (firstExact row side frame) (secondExact row side frame) ≡ exactLines
 
 pub worked : Worked
 unfolding ofBits toBits add sub mul div neg eq lt le notAbove indexOf coefficientOf orderFrom orderOf weightingOf rowOf frameChecks linesThrough stateThrough tab products lagSum normalizedLag autocorrelation crossed reflection nextRow stepped unpredicted predicted gainOf isOn dampingOf gainRecord powerFrom power damped rowBelow rowAt reflections recordOf reflectionsOf quantizedOf absent stage stagesTo lineEncoded linesEncoded statesAfter filterOf secondOf sideOf twoEncoded rowEncoded encodeVerdict spectrumEncoded exactStage exactStagesTo lineExact linesExact statesExact firstExact exactCarried secondExact ne
-worked = record { orders = refl; coefficients = refl; filtered = refl; exactly = refl }
+worked = record { orders = refl; coefficients = refl; filtered = refl; distant = refl; exactly = refl }

@@ -28,19 +28,24 @@ module _ {A : Type 0} (filters : ℕ) (orders indices : List ℕ) (next : Verdic
       unfolding sideChecks
       count-fails h = simp (eq-eqb _ _ two, eq-eqb _ _ sixteen, lt-ltb _ _ h)
 
-      -- what is left once 4 and 5 find no fault
-      left : filters ≤ 2 → sideChecks filters orders indices next ≡ checkAt 6 (lowestOver 8 0 orders) (checkAt 7 (lowestOver 16 0 indices) next)
-      unfolding sideChecks
-      left h = simp (eq-eqb _ _ two, eq-eqb _ _ sixteen, le-ltb _ _ h)
+      module _ (few : filters ≤ 2) where
+        -- what is left once 4 and 5 find no fault
+        left : sideChecks filters orders indices next ≡ checkAt 6 (lowestOver 8 0 orders) (checkAt 7 (lowestOver 16 0 indices) next)
+        unfolding sideChecks
+        left = simp (eq-eqb _ _ two, eq-eqb _ _ sixteen, le-ltb _ _ few)
 
--- past the first three tests
-after-tests : (e : tie.Else3) →
-    let g = e .before .before .before .before .before .args in
-    sideChecks (g .filters) (g .orders .now) (g .indices .now) noFault
-    ≡ checkAt 6 (lowestOver 8 0 (g .orders .now)) (checkAt 7 (lowestOver 16 0 (g .indices .now)) noFault)
-after-tests e =
-    let g = e .before .before .before .before .before .args in
-    left (g .filters) (g .orders .now) (g .indices .now) noFault (e .before .before .if1 .left) (e .before .if2 .left) (e .if3 .left)
+        order-fails : (place found : ℕ) → lowestOver 8 0 orders ≡ At place found → refusedAt 6 place found ≡ sideChecks filters orders indices next
+        order-fails place found e = sym (left ∙ ap (λ (o : Over). checkAt 6 o (checkAt 7 (lowestOver 16 0 indices) next)) e)
+
+        module _ (orders-fine : lowestOver 8 0 orders ≡ Nowhere) where
+          index-left : sideChecks filters orders indices next ≡ checkAt 7 (lowestOver 16 0 indices) next
+          index-left = left ∙ ap (λ (o : Over). checkAt 6 o (checkAt 7 (lowestOver 16 0 indices) next)) orders-fine
+
+          index-fails : (place found : ℕ) → lowestOver 16 0 indices ≡ At place found → refusedAt 7 place found ≡ sideChecks filters orders indices next
+          index-fails place found e = sym (index-left ∙ ap (λ (o : Over). checkAt 7 o next) e)
+
+          all-fine : lowestOver 16 0 indices ≡ Nowhere → next ≡ sideChecks filters orders indices next
+          all-fine e = sym (index-left ∙ ap (λ (o : Over). checkAt 7 o next) e)
 
 returns : tie.Need-returns
 returns c =
@@ -66,7 +71,10 @@ enum-known-order c = search needs
 returns-4 : tie.Need-returns-4
 returns-4 c =
     let called = c .before .before .before in
-    sym (after-tests (called .before) ∙ rw (sym (called .lowest-over .ensures) ∙ c .before .order .given .1))
+    let e = called .before in
+    let g = e .before .before .before .before .before .args in
+    order-fails (g .filters) (g .orders .now) (g .indices .now) noFault (e .before .before .if1 .left) (e .before .if2 .left) (e .if3 .left) _ _
+    (sym (called .lowest-over .ensures) ∙ c .before .order .given .1)
 
 enum-told : tie.Need-enum-told
 enum-told c = search needs
@@ -81,8 +89,10 @@ returns-5 : tie.Need-returns-5
 returns-5 c =
     let called2 = c .before .before .before in
     let called = called2 .before .before .before in
-    sym (after-tests (called .before) ∙ rw (sym (called .lowest-over .ensures) ∙ called2 .before .enum-told .given .1)
-    (rw (sym (called2 .lowest-over2 .ensures) ∙ c .before .index .given .1)))
+    let e = called .before in
+    let g = e .before .before .before .before .before .args in
+    index-fails (g .filters) (g .orders .now) (g .indices .now) noFault (e .before .before .if1 .left) (e .before .if2 .left) (e .if3 .left)
+    (sym (called .lowest-over .ensures) ∙ called2 .before .enum-told .given .1) _ _ (sym (called2 .lowest-over2 .ensures) ∙ c .before .index .given .1)
 
 enum-told-2 : tie.Need-enum-told-2
 enum-told-2 c = search needs
@@ -91,8 +101,10 @@ returns-6 : tie.Need-returns-6
 returns-6 c =
     let called2 = c .before .before in
     let called = called2 .before .before .before in
-    sym (after-tests (called .before) ∙ rw (sym (called .lowest-over .ensures) ∙ called2 .before .enum-told .given .1)
-    (rw (sym (called2 .lowest-over2 .ensures) ∙ c .enum-told2 .given .1)))
+    let e = called .before in
+    let g = e .before .before .before .before .before .args in
+    all-fine (g .filters) (g .orders .now) (g .indices .now) noFault (e .before .before .if1 .left) (e .before .if2 .left) (e .if3 .left)
+    (sym (called .lowest-over .ensures) ∙ called2 .before .enum-told .given .1) (sym (called2 .lowest-over2 .ensures) ∙ c .enum-told2 .given .1)
 
 pub check-side-spec : {M : Type 1} → statement M
 check-side-spec =

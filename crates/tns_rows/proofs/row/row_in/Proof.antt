@@ -1,12 +1,11 @@
 -- `tns_rows::row::row_in` meets its contract: each arm reads the row at its own bandwidth, and the last has zeros, which is no row of five.
 -- Assumes nothing.
-use mathlib.Core.Path.{_≡_, refl, sym, _∙_, ap}
+use mathlib.Core.Path.{_≡_, sym, _∙_, ap}
 use mathlib.Core.List.{List, []}
-use Prim.Native.Nat.{ℕ, suc, _<_, _≤_, zero-le}
+use Prim.Native.Nat.{ℕ, suc, _≤_, zero-le}
 use native.Mathlib.Omega.{arith}
 use lib.ListN.{getD, replicate, length, List·getD-eq-default}
-use Rattle.tns_rows.specs.Bands.{bandsOf, rowOf, rowsOf, tenMsRows, sevenPointFiveMsRows}
-use Rattle.tns_rows.specs.declared.duration.Duration.{Duration}
+use Rattle.tns_rows.specs.Bands.{bandsOf}
 use Rattle.tns_rows.specs.declared.duration.Duration.the-variants.{Ten, SevenPointFive}
 use borrow.Author.Needs.{needs}
 use Rattle.tns_rows.proofs.row.row_in.Statement.{statement}

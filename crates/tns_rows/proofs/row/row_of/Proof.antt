@@ -1,11 +1,10 @@
 -- `tns_rows::row::row_of` meets its contract: a duration has its own table.
 -- Assumes nothing.
-use mathlib.Core.Path.{_≡_, refl, sym, _∙_, ap}
-use mathlib.Core.List.{List, []}
-use Prim.Native.Nat.{ℕ, _<_, _≤_}
-use native.Mathlib.Omega.{arith}
-use lib.ListN.{getD, replicate, length, List·getD-eq-default}
-use Rattle.tns_rows.specs.Bands.{bandsOf, rowOf, rowsOf, tenMsRows, sevenPointFiveMsRows}
+use mathlib.Core.Path.{_≡_, _∙_}
+use mathlib.Core.List.{[]}
+use Prim.Native.Nat.{ℕ}
+use lib.ListN.{getD}
+use Rattle.tns_rows.specs.Bands.{bandsOf, rowOf, rowsOf}
 use Rattle.tns_rows.specs.declared.duration.Duration.{Duration}
 use Rattle.tns_rows.specs.declared.duration.Duration.the-variants.{Ten, SevenPointFive}
 use borrow.Author.Needs.{needs}
