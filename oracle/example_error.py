@@ -6,9 +6,9 @@ the harness, and rounds each f32 operation by itself.
     oracle/example_error.py          works the example that the checker works
     oracle/example_error.py FILE     works the harness's cases again and compares
 
-The example is one call of crates/replay_encode/stdin, where the Rust's side data
-and filtered lines stand beside the entering lines. Its numbers must be those of
-crates/tns_encode/specs/Worked.antt.
+The example is one call of the list crates/replay/data/encode, where the Rust's
+side data and filtered lines stand beside the entering lines. Its numbers must be
+those of crates/tns_examples/specs/Worked.antt.
 
 Assumes finite lines that stay finite, coefficients that are whole numbers of
 2^-26, and Python 3 with its standard library.
@@ -16,12 +16,13 @@ Assumes finite lines that stay finite, coefficients that are whole numbers of
 
 import pathlib
 import re
-import struct
 import sys
 
+import lists
+
 ROOT = pathlib.Path(__file__).resolve().parent.parent
-LIST = ROOT / "crates/replay_encode/stdin"
-WORKED = ROOT / "crates/tns_encode/specs/Worked.antt"
+LIST = lists.FOLDER / "encode"
+WORKED = ROOT / "crates/tns_examples/specs/Worked.antt"
 
 # The call: its duration, bandwidth and bits, its bands, and the lines that are
 # shown of each: at the seam, and at the end.
@@ -35,22 +36,9 @@ SIGN = 1 << 31
 def calls():
     """The list's calls: what was asked, the lines, the side data, the
     coefficients and the lines afterwards, as patterns."""
-    data = LIST.read_bytes()
-    at = 0
-
-    def take(form):
-        nonlocal at
-        values = struct.unpack_from("<" + form, data, at)
-        at += struct.calcsize("<" + form)
-        return values
-
-    while at < len(data):
-        duration, bandwidth, _, bits, length = take("BBBIH")
-        before = take(f"{length}I")
-        take("H")
-        side = take("20B")
-        coefficients = take("16I")
-        yield (duration, bandwidth, bits), before, side, coefficients, take(f"{length}I")
+    for call, answer in lists.records(LIST.read_bytes()):
+        asked = (call.duration, call.bandwidth, call.bits)
+        yield asked, call.lines, answer.side, answer.coefficients, answer.lines
 
 
 def units(pattern):

@@ -1,11 +1,12 @@
-//! Part of the word `lists`: crates/replay_decode/stdin, whole decoder calls
-//! with D's lines.
+//! Part of the word `lists`: the list `decode`, whole decoder calls with D's
+//! lines.
 
 use crate::builds::Build;
 use crate::cost::Frame;
 use crate::decode_call::{length, Call};
 use crate::lists::{patterns, write};
 use crate::random::{Random, SEED};
+use crate::record::{Record, DECODE};
 use crate::rows::ROWS;
 use crate::spectra::KINDS;
 use std::path::Path;
@@ -50,21 +51,24 @@ pub fn run(builds: &[Build; 2], root: &Path) -> bool {
         acting += usize::from(call.acts(0) || call.acts(1));
         let lines = patterns(&call.ask(&builds[0]));
         differ += usize::from(patterns(&call.ask(&builds[1])) != lines);
-        bytes.extend([call.row.duration, call.row.bandwidth]);
-        // The record of the side data, without the weighting.
-        bytes.extend(&call.side.record()[1..]);
-        bytes.extend((call.lines.len() as u16).to_le_bytes());
-        for line in &call.lines {
-            bytes.extend(line.to_bits().to_le_bytes());
-        }
-        for line in lines {
-            bytes.extend(line.to_le_bytes());
-        }
+        let side = call.side.record();
+        let record = Record {
+            call: DECODE,
+            duration: call.row.duration,
+            bandwidth: call.row.bandwidth,
+            filters: side[1],
+            orders: side[2..4].to_vec(),
+            indices: side[4..].to_vec(),
+            before: call.lines.iter().map(|line| line.to_bits()).collect(),
+            after: lines,
+            ..Record::default()
+        };
+        bytes.extend(record.bytes());
     }
     println!(
-        "lists: crates/replay_decode/stdin: {} records, {} bytes, {acting} with an acting filter; libm differs at {differ}",
+        "lists: decode: {} records, {} bytes, {acting} with an acting filter; libm differs at {differ}",
         calls.len(),
         bytes.len()
     );
-    write(&root.join("crates/replay_decode/stdin"), &bytes)
+    write(root, "decode", &bytes)
 }

@@ -1,5 +1,5 @@
-//! Part of the word `lists`: crates/replay_encode/stdin, whole encoder calls
-//! with E's answers. E and document 01 differ by intent on 10 ms bandwidth 2
+//! Part of the word `lists`: the list `encode`, whole encoder calls with E's
+//! answers. E and document 01 differ by intent on 10 ms bandwidth 2
 //! with a filter on, where lines 200 to 239 are those of E's lattice run on, and
 //! at coefficients of exactly 1 or -1; such calls are left out.
 
@@ -9,6 +9,7 @@ use crate::encode_draw::{draw, ACTIVE, GAIN_DAMPED, GAIN_ON, KINDS, SILENCE, THR
 use crate::encode_steer::is_threshold;
 use crate::lists::{patterns, write};
 use crate::random::{Random, SEED};
+use crate::record::{Record, ENCODE};
 use crate::rows::ROWS;
 use std::path::Path;
 
@@ -33,7 +34,7 @@ impl Search<'_> {
             let mut taken = None;
             draw(random, self.build, row, kind, length, |call| {
                 let mut call = call.clone();
-                // The list has room for 32 bits.
+                // A larger bit number says no more: both limits are far below.
                 call.bits = call.bits.min(u64::from(u32::MAX));
                 let Some(outcome) = listed(&call, self.build) else {
                     return;
@@ -110,21 +111,20 @@ fn listed(call: &Call, build: &Build) -> Option<Outcome> {
 
 fn record(call: &Call, outcome: &Outcome) -> Vec<u8> {
     let row = call.row();
-    let mut bytes = vec![row.duration, row.bandwidth, u8::from(call.near_nyquist)];
-    bytes.extend((call.bits as u32).to_le_bytes());
-    bytes.extend((call.lines.len() as u16).to_le_bytes());
-    for line in &call.lines {
-        bytes.extend(line.to_bits().to_le_bytes());
-    }
-    bytes.extend((outcome.bits as u16).to_le_bytes());
-    bytes.extend(outcome.side.record());
-    for pattern in patterns(&outcome.coefficients) {
-        bytes.extend(pattern.to_le_bytes());
-    }
-    for pattern in patterns(&outcome.lines) {
-        bytes.extend(pattern.to_le_bytes());
-    }
-    bytes
+    let record = Record {
+        call: ENCODE,
+        duration: row.duration,
+        bandwidth: row.bandwidth,
+        choice: u8::from(call.near_nyquist),
+        bit_number: call.bits,
+        before: call.lines.iter().map(|line| line.to_bits()).collect(),
+        bits: outcome.bits,
+        side: outcome.side.record().to_vec(),
+        coefficients: patterns(&outcome.coefficients),
+        after: patterns(&outcome.lines),
+        ..Record::default()
+    };
+    record.bytes()
 }
 
 pub fn run(builds: &[Build; 2], root: &Path) -> bool {
@@ -149,9 +149,9 @@ pub fn run(builds: &[Build; 2], root: &Path) -> bool {
         differ += usize::from(other.is_none_or(|other| outcome.difference(&other).is_some()));
     }
     println!(
-        "lists: crates/replay_encode/stdin: {} records, {} bytes, {active} with a filter on; libm differs at {differ}",
+        "lists: encode: {} records, {} bytes, {active} with a filter on; libm differs at {differ}",
         search.found.len(),
         bytes.len()
     );
-    write(&root.join("crates/replay_encode/stdin"), &bytes) && search.failed == 0
+    write(root, "encode", &bytes) && search.failed == 0
 }

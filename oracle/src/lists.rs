@@ -1,11 +1,12 @@
-//! The word `lists`: writes the fixed lists of the std build's answers. Here
-//! crates/replay_cost/stdin and crates/replay_index/stdin; the longer lists have
+//! The word `lists`: writes the fixed lists of the std build's answers to
+//! crates/replay/data. Here the lists `cost` and `index`; the longer ones have
 //! files of their own.
-//! Assumes that the folders exist. The same build writes the same bytes.
+//! Assumes that the folder exists. The same build writes the same bytes.
 
 use crate::builds::{both, Build};
 use crate::cost::Frame;
 use crate::random::{Random, SEED};
+use crate::record::{Record, COST, INDEX};
 use crate::{list_decode, list_encode};
 use std::path::Path;
 
@@ -101,14 +102,24 @@ fn cost_list(builds: &[Build; 2], root: &Path) -> bool {
         let bits = frame.ask(&builds[0]);
         differ += usize::from(frame.ask(&builds[1]) != bits);
         most = most.max(bits);
-        bytes.extend(frame.record());
-        bytes.extend((bits as u16).to_le_bytes());
+        let side = frame.record();
+        let record = Record {
+            call: COST,
+            choice: side[0],
+            filters: side[1],
+            orders: side[2..4].to_vec(),
+            indices: side[4..].to_vec(),
+            bits,
+            ..Record::default()
+        };
+        bytes.extend(record.bytes());
     }
     println!(
-        "lists: crates/replay_cost/stdin: {} records of 22 bytes, at most {most} bits; libm differs at {differ}",
-        frames.len()
+        "lists: cost: {} records, {} bytes, at most {most} bits; libm differs at {differ}",
+        frames.len(),
+        bytes.len()
     );
-    write(&root.join("crates/replay_cost/stdin"), &bytes) && good
+    write(root, "cost", &bytes) && good
 }
 
 /// The eight thresholds of a build, by halving on its own answers; the word
@@ -188,15 +199,21 @@ fn index_list(builds: &[Build; 2], root: &Path) -> bool {
                 "lists: {input:08X}: std {index} {coefficient:08X}, libm {other} {its_coefficient:08X}"
             );
         }
-        bytes.extend(input.to_le_bytes());
-        bytes.push(index as u8);
-        bytes.extend(coefficient.to_le_bytes());
+        let record = Record {
+            call: INDEX,
+            before: vec![*input],
+            bits: index,
+            after: vec![coefficient],
+            ..Record::default()
+        };
+        bytes.extend(record.bytes());
     }
     println!(
-        "lists: crates/replay_index/stdin: {} records of 9 bytes; libm differs at {differ}",
-        inputs.len()
+        "lists: index: {} records, {} bytes; libm differs at {differ}",
+        inputs.len(),
+        bytes.len()
     );
-    write(&root.join("crates/replay_index/stdin"), &bytes)
+    write(root, "index", &bytes)
 }
 
 /// The bit patterns of lines, with one pattern for every NaN.
@@ -205,8 +222,9 @@ pub fn patterns(lines: &[f32]) -> Vec<u32> {
     lines.iter().map(pattern).collect()
 }
 
-pub fn write(path: &Path, bytes: &[u8]) -> bool {
-    let written = std::fs::write(path, bytes);
+pub fn write(root: &Path, list: &str, bytes: &[u8]) -> bool {
+    let path = root.join("crates/replay/data").join(list);
+    let written = std::fs::write(&path, bytes);
     if let Err(error) = &written {
         println!("lists: cannot write {}: {error}", path.display());
     }

@@ -57,6 +57,7 @@ mod lists;
 mod port;
 mod powi;
 mod random;
+mod record;
 mod rows;
 mod rule;
 mod same;

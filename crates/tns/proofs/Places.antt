@@ -12,9 +12,10 @@ use lib.ListN.{length}
 use Rattle.tns_refusals.specs.Refusals.{Verdict, accepted, noFault, placeIn, check, checkAt, lowestOver, sideChecks}
 use Rattle.tns_refusals.specs.declared.Over.{Over}
 use Rattle.tns_refusals.specs.declared.Over.the-variants.{Nowhere, At}
-use Rattle.tns_tables.specs.Cost.{costOf, countedBits}
+use Rattle.tns_cost.specs.Cost.{costOf, countedBits}
 use Rattle.tns_rows.specs.Durations.{kept, durationOf}
-use Rattle.tns_rows.specs.Bands.{frameChecks, rowOf, lastStop}
+use Rattle.tns_frames.specs.Frames.{frameChecks}
+use Rattle.tns_rows.specs.Bands.{rowOf, lastStop}
 use Rattle.tns_decode.specs.Decoder.{decodeChecks}
 use Rattle.tns_encode.specs.Encoder.{encodeVerdict, bitsIn, sideOf, weightingIn}
 use Rattle.tns.proofs.Sides.{bits-place}

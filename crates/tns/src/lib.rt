@@ -1,26 +1,27 @@
 // The one crate whose functions C and Rust call. A slice passes as its pointer and length, and an
 // answer by value. Each function takes any numbers and lists and is its inner door: the answer's
 // numbers are those of the door's definition. Assumes nothing.
+use tns_cost::CostAnswer;
+use tns_cost::cost;
 use tns_decode::DecodeAnswer;
 use tns_decode::decode;
 use tns_encode::EncodeAnswer;
-use tns_encode::SideData;
 use tns_encode::encode;
 use tns_refusals::Refusal;
-use tns_tables::CostAnswer;
-use tns_tables::cost;
+use tns_side::coefficients_of;
+use tns_side::record_of;
 ghost use mathlib.Core.Path.{_≡_};
 ghost use Prim.Native.Nat.{_≤_};
 ghost use lib.ListN.{length};
 ghost use Rattle.tns_refusals.specs.Refusals.{placeIn, says};
-ghost use Rattle.tns_tables.specs.Cost.{costOf};
+ghost use Rattle.tns_cost.specs.Cost.{costOf};
 ghost use Rattle.tns_decode.specs.Decoder.{decodeChecks, spectrumDecoded};
 ghost use Rattle.tns_rows.specs.Durations.{durationOf};
 ghost use Rattle.tns_rows.specs.Bands.{rowOf};
 ghost use Rattle.tns_encode.specs.Encoder.{encodeVerdict, bitsIn, sideIn, spectrumEncoded};
-ghost use Rattle.tns_encode.specs.Exact.{IfAccepted, NearExact};
+ghost use Rattle.tns_exact.specs.Exact.{IfAccepted, NearExact};
 ghost use Rattle.tns.specs.Answers.{told, accepts, noBits, itsBits};
-ghost use Rattle.tns.specs.Sides.{recordOf, recordAfter, coefficientsAfter};
+ghost use Rattle.tns.specs.Sides.{recordAfter, coefficientsAfter};
 
 // What a call answers. Refusal 0 says that it is accepted, and any other is document 01's number.
 // Place and found are those of refusals 6 and 7, and 0 else. Bits are those of an accepted cost, and
@@ -76,37 +77,6 @@ pub extern "C" fn tns_decode(
     }
 }
 
-// Side data as the 20 bytes of the bits program.
-fn record_of(s: SideData) -> [u8; 20]
-    requires { ⌜ (length (s .orders) ≡ 2) × (length (s .indices) ≡ 16) ⌝ }
-    ensures { λ r. ⌜ r ≡ recordOf s ⌝ }
-{
-    let o = s.orders;
-    let i = s.indices;
-    [
-        s.weighting,
-        s.filters,
-        o[0],
-        o[1],
-        i[0],
-        i[1],
-        i[2],
-        i[3],
-        i[4],
-        i[5],
-        i[6],
-        i[7],
-        i[8],
-        i[9],
-        i[10],
-        i[11],
-        i[12],
-        i[13],
-        i[14],
-        i[15],
-    ]
-}
-
 // Encodes a spectrum in place, as `tns_encode::encode`. An accepted call writes its side data as the
 // 20 bytes of the bits program, and its coefficients; a refused one writes nothing anywhere. `flag` is
 // the near-Nyquist flag.
@@ -132,15 +102,14 @@ pub extern "C" fn tns_encode(
         EncodeAnswer::Refused(why) => refused(why),
         EncodeAnswer::Bits(n) => {
             let s = encoded.side;
-            let q = s.coefficients;
             *side = record_of(s);
-            *coefficients = q;
+            *coefficients = coefficients_of(s);
             accepted(n)
         }
     }
 }
 
-// The cost of a frame's side data in bits, as `tns_tables::cost`.
+// The cost of a frame's side data in bits, as `tns_cost::cost`.
 #[no_mangle]
 pub extern "C" fn tns_cost(weighting: u8, filters: u8, orders: &[u8], indices: &[u8]) -> Answer
     ensures { λ r. ⌜ r ≡ told itsBits (costOf weighting filters (now (orders .entry)) (now (indices .entry))) ⌝ }

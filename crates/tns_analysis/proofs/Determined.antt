@@ -3,10 +3,10 @@
 use mathlib.Core.List.{List}
 use lib.Ieee.{Float}
 use Rattle.tns_refusals.proofs.Determined.{Determined, of-parts, itself}
-use Rattle.tns_analysis.specs.declared.gain.FilterGain.{FilterGain}
-use Rattle.tns_analysis.specs.declared.filter.Analysed.{Analysed}
-use Rattle.tns_analysis.proofs.filter.analyse.Kinds as analyse-kinds
-use Rattle.tns_analysis.proofs.filter.analyse.Reads as analyse-reads
+use Rattle.tns_recursion.specs.declared.gain.FilterGain.{FilterGain}
+use Rattle.tns_analysis.specs.declared.Analysed.{Analysed}
+use Rattle.tns_analysis.proofs.analyse.Kinds as analyse-kinds
+use Rattle.tns_analysis.proofs.analyse.Reads as analyse-reads
 
 abbrev analysed : FilterGain → List Float → Analysed
 analysed gain reflections = record { gain = gain; reflections = reflections }

@@ -5,12 +5,13 @@ use Prim.Native.Nat.{ℕ}
 use lib.ListN.{replicate}
 use lib.Ieee.{Float}
 use Rattle.tns_rows.specs.declared.row.Band.{Band}
-use Rattle.tns_analysis.specs.Floats.{f0, at}
-use Rattle.tns_analysis.specs.Autocorrelation.{autocorrelation}
-use Rattle.tns_analysis.specs.Recursion.{predicted}
-use Rattle.tns_analysis.specs.Gain.{gainRecord}
-use Rattle.tns_analysis.specs.Reflections.{damped, reflections}
-use Rattle.tns_analysis.specs.declared.gain.FilterGain.{FilterGain}
+use Rattle.tns_rounding.specs.Floats.{f0}
+use Rattle.tns_lists.specs.Places.{at}
+use Rattle.tns_lags.specs.Autocorrelation.{autocorrelation}
+use Rattle.tns_recursion.specs.Recursion.{predicted}
+use Rattle.tns_recursion.specs.Gain.{gainRecord}
+use Rattle.tns_reflections.specs.Reflections.{damped, reflections}
+use Rattle.tns_recursion.specs.declared.gain.FilterGain.{FilterGain}
 
 -- the record of a filter on a band
 unfoldable pub recordOf : Band → List Float → Bool → ℕ → FilterGain

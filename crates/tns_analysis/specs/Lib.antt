@@ -1,8 +1,2 @@
--- What a reader has to believe of the analysis of one filter, in the order of document 01's words.
-pub mod Floats
-pub mod Autocorrelation
-pub mod Recursion
-pub mod Gain
-pub mod Reflections
+-- What a reader has to believe of the analysis of one filter, over its three steps.
 pub mod Analysis
-pub mod Steps

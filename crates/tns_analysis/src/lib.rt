@@ -1,11 +1,36 @@
 // The analysis of one filter: from the lines of a band to the record of gain, damping and on/off, and
 // to eight reflection coefficients. Everything in E's order of float operations. Assumes nothing.
-mod filter;
-mod gain;
-mod lags;
-mod recursion;
-mod reflections;
+use tns_lags::autocorrelated;
+use tns_recursion::FilterGain;
+use tns_recursion::gain_record;
+use tns_recursion::predict;
+use tns_reflections::damped_row;
+use tns_reflections::reflected_row;
+use tns_rows::Band;
+ghost use mathlib.Core.Path.{_≡_};
+ghost use Rattle.tns_analysis.specs.Analysis.{recordOf, reflectionsOf};
 
-pub use filter::Analysed;
-pub use filter::analyse;
-pub use gain::FilterGain;
+// What the analysis gives: the record, and eight reflection coefficients.
+pub struct Analysed {
+    pub gain: FilterGain,
+    pub reflections: [f32; 8],
+}
+
+// The analysis of any band. `flag` is the near-Nyquist flag.
+pub fn analyse(lines: &[f32], band: Band, flag: bool, weighting: u8) -> Analysed
+    ensures { λ r. ⌜ r .gain ≡ recordOf band (now (lines .entry)) flag weighting ⌝ }
+    ensures { λ r. ⌜ r .reflections ≡ reflectionsOf band (now (lines .entry)) flag weighting ⌝ }
+{
+    let r = autocorrelated(lines, band);
+    let p = predict(r);
+    let gain = gain_record(r[0], p.error, flag, weighting);
+    if gain.on {
+        let row = p.row;
+        let reflections = reflected_row(damped_row(row, gain.damping));
+        return Analysed { gain, reflections };
+    }
+    Analysed {
+        gain,
+        reflections: [0.0; 8],
+    }
+}

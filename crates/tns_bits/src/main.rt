@@ -1,11 +1,11 @@
 // Reads 20-byte records of side data from standard input until it ends, and writes a line for each:
-// the bits that it costs, or why it is refused. Everything that decides is in `tns_tables`; what is
+// the bits that it costs, or why it is refused. Everything that decides is in `tns_cost`; what is
 // read and written here is tested and not proved.
 use libc::STDIN_FILENO;
 use libc::STDOUT_FILENO;
+use tns_cost::CostAnswer;
+use tns_cost::RecordAnswer;
 use tns_refusals::Refusal;
-use tns_tables::CostAnswer;
-use tns_tables::RecordAnswer;
 
 fn put(text: &[u8]) -> bool {
     io::write_all(STDOUT_FILENO, text)
@@ -49,7 +49,7 @@ fn frame_done(frame: u64) -> bool {
     put(b"frame ");
     io::print_decimal(STDOUT_FILENO, frame);
     put(b": ");
-    let answer = tns_tables::record_cost(&record[..got]);
+    let answer = tns_cost::record_cost(&record[..got]);
     match answer {
         RecordAnswer::Short => {
             put(b"short\n");

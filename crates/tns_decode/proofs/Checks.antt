@@ -9,9 +9,10 @@ use Rattle.tns_refusals.specs.Refusals.{Verdict, accepted, refused, refusedAt, 
 use Rattle.tns_refusals.specs.declared.Refusal.{Refusal}
 use Rattle.tns_refusals.proofs.Sides.{settle, by-refusal, refused-by-checks, passed-by-checks}
 use Rattle.tns_rows.specs.Durations.{durationOf}
-use Rattle.tns_rows.specs.Bands.{rowOf, frameChecks, frameOf}
+use Rattle.tns_rows.specs.Bands.{rowOf}
+use Rattle.tns_frames.specs.Frames.{frameChecks, frameOf}
 use Rattle.tns_rows.specs.declared.row.Row.{Row}
-use Rattle.tns_rows.proofs.Frames.{frames-settle}
+use Rattle.tns_frames.proofs.Frames.{frames-settle}
 use Rattle.tns_decode.specs.Decoder.{decodeChecks, unlessRefused, spectrumDecoded, rowDecoded}
 
 -- a refused call leaves what was there

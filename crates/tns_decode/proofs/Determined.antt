@@ -5,10 +5,10 @@ use mathlib.Core.List.{List}
 use lib.Ieee.{Float}
 use Rattle.tns_refusals.proofs.Determined.{DeterminedWith, coincide, itself, answerBack, refused-back}
 use Rattle.tns_decode.specs.Decoder.{decodeSays}
-use Rattle.tns_decode.specs.declared.door.DecodeAnswer.{DecodeAnswer}
-use Rattle.tns_decode.specs.declared.door.DecodeAnswer.the-variants.{Decoded, Refused}
-use Rattle.tns_decode.proofs.door.decode.Kinds as decode-kinds
-use Rattle.tns_decode.proofs.door.decode.Reads as decode-reads
+use Rattle.tns_decode.specs.declared.DecodeAnswer.{DecodeAnswer}
+use Rattle.tns_decode.specs.declared.DecodeAnswer.the-variants.{Decoded, Refused}
+use Rattle.tns_decode.proofs.decode.Kinds as decode-kinds
+use Rattle.tns_decode.proofs.decode.Reads as decode-reads
 
 decodeBack : (answer : DecodeAnswer) → answerBack (λ (u : Unit {0}). Decoded) Refused (decodeSays answer) ≡ answer
 decodeBack Decoded = refl

@@ -4,28 +4,16 @@ use mathlib.Core.Path.{_≡_, refl, sym, _∙_, ap}
 use mathlib.Core.List.{List, [], _∷_, map}
 use Prim.Native.Nat.{ℕ, zero, suc, _≤_}
 use native.Mathlib.Nat.{le-of-suc-le-suc, not-suc-le-zero}
-use lib.Ieee.{Float, nan}
+use lib.Ieee.{Float}
 use lib.ListN.{getD, take, drop, length}
 use lib.Seq.{getD-drop}
 use Rattle.tns_rows.specs.Bands.{inside, within}
-use Rattle.tns_rows.specs.declared.row.Band.{Band}
 use Rattle.tns_rows.specs.declared.row.Row.{Row}
-use Rattle.tns_rows.proofs.Frames.{SoundRow, band-kept}
-use Rattle.tns_rows.proofs.InPlace.{lines-unchanged, state-unchanged}
-use Rattle.tns_decode.specs.Lattice.{lineDecoded, linesDecoded, statesAfter}
-use Rattle.tns_decode.specs.Decoder.{decoderCoefficient, bandsDecoded, rowDecoded, atRest}
-
--- order 0 changes neither lines nor states
-pub order-0 : (q s xs : List Float) → (s ≡ statesAfter q 0 s xs) × (xs ≡ linesDecoded q 0 s xs)
-unfolding linesDecoded statesAfter lineDecoded
-order-0 q s xs =
-    let f : List Float → Float → Float = λ s x. x in
-    let h : List Float → Float → List Float = λ s x. s in
-    (state-unchanged f h nan (λ s x. refl) (λ s x. refl) s xs, lines-unchanged f h nan (λ s x. refl) (λ s x. refl) s xs)
-
--- nor, in its band, the spectrum
-pub order-0-within : (band : Band) (q s xs : List Float) → band .start ≤ band .stop → xs ≡ within band (linesDecoded q 0 s) xs
-order-0-within band q s xs h = band-kept band (linesDecoded q 0 s) xs h (order-0 q s (inside band xs) .1)
+use Rattle.tns_rows.proofs.Bands.{SoundRow}
+use Rattle.tns_lattices.specs.DecoderLattice.{linesDecoded, statesAfter}
+use Rattle.tns_lattices.proofs.DecoderIdle.{order-0-within}
+use Rattle.tns_decode.specs.Decoder.{decoderCoefficient, bandsDecoded, rowDecoded}
+use Rattle.tns_lattices.specs.States.{atRest}
 
 module _ (row : Row) (orders indices : List ℕ) (lines : List Float) where
   pub none-decoded : lines ≡ rowDecoded row 0 orders indices lines

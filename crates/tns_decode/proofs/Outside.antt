@@ -11,13 +11,16 @@ use lib.ListN.{length, getD, take, drop}
 use Rattle.tns_refusals.specs.Refusals.{Verdict, accepted, refused, refusedAt, noFault, sideChecks}
 use Rattle.tns_refusals.proofs.Sides.{settle}
 use Rattle.tns_rows.specs.Durations.{kept, durationOf}
-use Rattle.tns_rows.specs.Bands.{rowOf, bandOf, lastStop, frameChecks, frameOf, inside, within}
+use Rattle.tns_rows.specs.Bands.{rowOf, bandOf, lastStop, inside, within}
+use Rattle.tns_frames.specs.Frames.{frameChecks, frameOf}
 use Rattle.tns_rows.specs.declared.row.Row.{Row}
-use Rattle.tns_rows.proofs.Frames.{Fits, SoundRow, sound-row, frames-settle}
+use Rattle.tns_rows.proofs.Bands.{Fits, SoundRow}
+use Rattle.tns_frames.proofs.Frames.{sound-row, frames-settle}
 use Rattle.tns_rows.proofs.Apart.{Outside, Apart, within-length, within-outside, inside-within, inside-other, row-apart, early-outside, late-outside}
-use Rattle.tns_rows.proofs.InPlace.{through-length}
-use Rattle.tns_decode.specs.Lattice.{linesDecoded, statesAfter}
-use Rattle.tns_decode.specs.Decoder.{decoderCoefficient, bandsDecoded, rowDecoded, atRest, decodeChecks, unlessRefused, spectrumDecoded}
+use Rattle.tns_lists.proofs.InPlace.{through-length}
+use Rattle.tns_lattices.specs.DecoderLattice.{linesDecoded, statesAfter}
+use Rattle.tns_decode.specs.Decoder.{decoderCoefficient, bandsDecoded, rowDecoded, decodeChecks, unlessRefused, spectrumDecoded}
+use Rattle.tns_lattices.specs.States.{atRest}
 use Rattle.tns_decode.proofs.Filters.{firstStates}
 
 -- ---- the counted filters in a row whose bands are apart

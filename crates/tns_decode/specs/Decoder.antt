@@ -1,17 +1,19 @@
 -- The decode call: its answer, and the spectrum after it. Assumes nothing.
 use mathlib.Core.List.{List, [], _∷_, map}
 use Prim.Native.Nat.{ℕ, zero, suc}
-use lib.ListN.{getD, take, drop, length, replicate}
+use lib.ListN.{getD, take, drop, length}
 use lib.Ieee.{Float}
 use Rattle.tns_refusals.specs.Refusals.{Verdict, accepted, refused, refusedAt, noFault, says, sideChecks}
-use Rattle.tns_tables.specs.Quantizer.{coefficientOf, plusZero}
+use Rattle.tns_index.specs.Quantizer.{coefficientOf, plusZero}
 use Rattle.tns_rows.specs.Durations.{durationOf}
-use Rattle.tns_rows.specs.Bands.{rowOf, frameChecks, inside, within}
+use Rattle.tns_rows.specs.Bands.{rowOf, inside, within}
+use Rattle.tns_frames.specs.Frames.{frameChecks}
 use Rattle.tns_rows.specs.declared.row.Band.{Band}
 use Rattle.tns_rows.specs.declared.row.Row.{Row}
-use Rattle.tns_decode.specs.Lattice.{linesDecoded, statesAfter}
-use Rattle.tns_decode.specs.declared.door.DecodeAnswer.{DecodeAnswer}
-use Rattle.tns_decode.specs.declared.door.DecodeAnswer.the-variants.{Decoded, Refused}
+use Rattle.tns_lattices.specs.States.{atRest}
+use Rattle.tns_lattices.specs.DecoderLattice.{linesDecoded, statesAfter}
+use Rattle.tns_decode.specs.declared.DecodeAnswer.{DecodeAnswer}
+use Rattle.tns_decode.specs.declared.DecodeAnswer.the-variants.{Decoded, Refused}
 
 -- the coefficient that the decoder takes an index for: as in D, index 0 gives coefficient 0
 unfoldable pub decoderCoefficient : ℕ → Float
@@ -29,10 +31,6 @@ bandsDecoded (band ∷ bands) (suc filters) orders indices states lines =
     bandsDecoded bands filters (drop 1 orders) (drop 8 indices)
     (statesAfter q order states (inside band lines))
     (within band (linesDecoded q order states) lines)
-
--- eight state numbers start at 0
-abbrev pub atRest : List Float
-atRest = replicate 8 plusZero
 
 unfoldable pub rowDecoded : Row → ℕ → List ℕ → List ℕ → List Float → List Float
 rowDecoded row filters orders indices lines = bandsDecoded (row .first ∷ row .second ∷ []) filters orders indices atRest lines

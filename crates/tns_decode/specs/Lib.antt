@@ -1,3 +1,2 @@
--- What a reader has to believe of the decoder, in the order of document 01's headings.
-pub mod Lattice
+-- What a reader has to believe of the decode call.
 pub mod Decoder

@@ -1,7 +1,132 @@
-// The decoder: it undoes the encoder's filter over the bands of a frame, in the caller's own
-// spectrum. Assumes nothing.
-mod door;
-mod lattice;
+// The decode call: it checks a frame and its side data, and undoes the encoder's filter over the bands
+// in the caller's own spectrum. Assumes nothing.
+use tns_frames::FrameAnswer;
+use tns_frames::check_frame;
+use tns_index::coefficient_of;
+use tns_lattices::band_decoded;
+use tns_refusals::Refusal;
+use tns_refusals::SideAnswer;
+use tns_refusals::check_side;
+use tns_rows::Band;
+use tns_rows::Row;
+ghost use mathlib.Core.Path.{_≡_};
+ghost use mathlib.Core.List.{map};
+ghost use Prim.Native.Nat.{_≤_};
+ghost use lib.ListN.{length, getD, take};
+ghost use Rattle.tns_refusals.specs.Refusals.{SoundSide};
+ghost use Rattle.tns_rows.specs.Bands.{inside, within};
+ghost use Rattle.tns_rows.proofs.Bands.{Fits, SoundRow};
+ghost use Rattle.tns_lattices.specs.DecoderLattice.{linesDecoded, statesAfter};
+ghost use Rattle.tns_decode.specs.Decoder.{decoderCoefficient, rowDecoded, decodeChecks, spectrumDecoded, decodeSays};
 
-pub use door::DecodeAnswer;
-pub use door::decode;
+// The answer of `decode`.
+pub enum DecodeAnswer {
+    Decoded,
+    Refused(Refusal),
+}
+
+// The coefficient that an index stands for. As in D, index 0 stands for 0.
+fn decoder_coefficient(index: u8) -> f32
+    ensures { λ r. ⌜ r ≡ decoderCoefficient index ⌝ }
+{
+    if index == 0 {
+        return 0.0;
+    }
+    coefficient_of(index)
+}
+
+// The eight coefficients of a filter.
+fn coefficients(indices: &[u8]) -> [f32; 8]
+    requires { ⌜ length (now indices) ≡ 8 ⌝ }
+    ensures { λ r. ⌜ r ≡ map decoderCoefficient (now (indices .entry)) ⌝ }
+{
+    let mut q = [0.0; 8];
+    for k in 0..8usize {
+        q[k] = decoder_coefficient(indices[k]);
+    }
+    q
+}
+
+// One filter, in its band of the whole spectrum. It answers the states after it.
+fn filter_decoded(
+    band: Band,
+    order: u8,
+    indices: &[u8],
+    states: [f32; 8],
+    lines: &mut [f32],
+) -> [f32; 8]
+    requires { ⌜ Fits band (length (now lines)) ⌝ }
+    requires { ⌜ (order ≤ 8) × (length (now indices) ≡ 8) ⌝ }
+    ensures { λ r. ⌜ r ≡ statesAfter (map decoderCoefficient (now (indices .entry))) order states (inside band (now (lines .entry))) ⌝ }
+    ensures { λ _. ⌜ now (lines .exit) ≡ within band (linesDecoded (map decoderCoefficient (now (indices .entry))) order states) (now (lines .entry)) ⌝ }
+{
+    if order == 0 {
+        return states;
+    }
+    let q = coefficients(indices);
+    let start = band.start;
+    let stop = band.stop;
+    band_decoded(q, order, states, &mut lines[start..stop])
+}
+
+// The counted filters, each in its band, the states carried from the first to the second.
+fn row_decoded(row: Row, filters: u8, orders: &[u8], indices: &[u8], lines: &mut [f32])
+    requires { ⌜ SoundRow row (length (now lines)) ⌝ }
+    requires { ⌜ SoundSide filters (now orders) (now indices) ⌝ }
+    ensures { λ _. ⌜ now (lines .exit) ≡ rowDecoded row filters (now (orders .entry)) (now (indices .entry)) (now (lines .entry)) ⌝ }
+{
+    if filters == 0 {
+        return;
+    }
+    let states = filter_decoded(row.first, orders[0], &indices[0..8], [0.0; 8], lines);
+    if filters == 1 {
+        return;
+    }
+    filter_decoded(row.second, orders[1], &indices[8..16], states, lines);
+}
+
+// The same, passing over filters that all have order 0.
+fn acting_decoded(row: Row, filters: u8, orders: &[u8], indices: &[u8], lines: &mut [f32])
+    requires { ⌜ SoundRow row (length (now lines)) ⌝ }
+    requires { ⌜ SoundSide filters (now orders) (now indices) ⌝ }
+    ensures { λ _. ⌜ now (lines .exit) ≡ rowDecoded row filters (now (orders .entry)) (now (indices .entry)) (now (lines .entry)) ⌝ }
+{
+    if orders[0] == 0 {
+        if filters == 1 {
+            return;
+        }
+        if orders[1] == 0 {
+            return;
+        }
+    }
+    row_decoded(row, filters, orders, indices, lines);
+}
+
+// Decodes a spectrum in place. Any numbers and lists may be given: a frame or side data that document
+// 01 refuses is refused by number and leaves every line as it was.
+pub fn decode(
+    duration: u8,
+    bandwidth: u8,
+    filters: u8,
+    orders: &[u8],
+    indices: &[u8],
+    lines: &mut [f32],
+) -> DecodeAnswer
+    ensures { λ r. ⌜ decodeSays r ≡ decodeChecks duration bandwidth filters (now (orders .entry)) (now (indices .entry)) (length (now (lines .entry))) ⌝ }
+    ensures { λ _. ⌜ now (lines .exit) ≡ spectrumDecoded duration bandwidth filters (now (orders .entry)) (now (indices .entry)) (now (lines .entry)) ⌝ }
+{
+    let frame = check_frame(duration, bandwidth, lines.len());
+    match frame {
+        FrameAnswer::Refused(why) => DecodeAnswer::Refused(why),
+        FrameAnswer::Sound(row) => {
+            let side = check_side(filters, orders, indices);
+            match side {
+                SideAnswer::Refused(why) => DecodeAnswer::Refused(why),
+                SideAnswer::Sound => {
+                    acting_decoded(row, filters, orders, indices, lines);
+                    DecodeAnswer::Decoded
+                }
+            }
+        }
+    }
+}

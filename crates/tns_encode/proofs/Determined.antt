@@ -5,12 +5,12 @@ use mathlib.Core.List.{List}
 use lib.Ieee.{Float}
 use Rattle.tns_refusals.proofs.Determined.{DeterminedWith, of-parts, coincide, itself, answerBack, refused-back}
 use Rattle.tns_encode.specs.Encoder.{encodeSays}
-use Rattle.tns_encode.specs.declared.door.SideData.{SideData}
-use Rattle.tns_encode.specs.declared.door.Encoded.{Encoded}
-use Rattle.tns_encode.specs.declared.door.EncodeAnswer.{EncodeAnswer}
-use Rattle.tns_encode.specs.declared.door.EncodeAnswer.the-variants.{Bits, Refused}
-use Rattle.tns_encode.proofs.door.encode.Kinds as encode-kinds
-use Rattle.tns_encode.proofs.door.encode.Reads as encode-reads
+use Rattle.tns_side.specs.declared.SideData.{SideData}
+use Rattle.tns_encode.specs.declared.Encoded.{Encoded}
+use Rattle.tns_encode.specs.declared.EncodeAnswer.{EncodeAnswer}
+use Rattle.tns_encode.specs.declared.EncodeAnswer.the-variants.{Bits, Refused}
+use Rattle.tns_encode.proofs.encode.Kinds as encode-kinds
+use Rattle.tns_encode.proofs.encode.Reads as encode-reads
 
 abbrev encoded : EncodeAnswer → SideData → Encoded
 encoded answer side = record { answer = answer; side = side }

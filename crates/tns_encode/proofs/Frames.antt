@@ -1,62 +1,63 @@
--- Laws of the encoder's frames: rows have room for eight lags, from one computed test, and what a refused and an accepted frame make of the call.
+-- Laws of the encoder's frames: a row's cuts lie inside its bands, from one computed test, and what a refused and an accepted frame make of the call.
 -- Assumes nothing.
 use mathlib.Core.Path.{_≡_, refl, sym, _∙_, ap, subst}
-use mathlib.Core.Bool.{Bool, true, false, not, _&&_, _||_, cond}
+use mathlib.Core.Bool.{Bool, true, false, _&&_}
 use mathlib.Core.List.{List, [], _∷_}
-use Prim.Native.Nat.{ℕ, zero, suc, _+_, _≤_, _<_, max}
-use native.Mathlib.Nat.{le-of-suc-le-suc, not-suc-le-zero}
+use Prim.Native.Nat.{ℕ, _≤_, max}
 use native.Mathlib.Omega.{arith}
-use lib.Dec.{leb, eqb}
-use borrow.Author.Tests.{leb-true, ne-eqb}
+use lib.Dec.{leb}
+use borrow.Author.Tests.{leb-true}
 use lib.Ieee.{Float}
 use lib.ListN.{getD, length}
+use Rattle.tns_lists.specs.Every.{every}
+use Rattle.tns_lists.proofs.Every.{and-left, and-right, every-at}
 use Rattle.tns_refusals.specs.Refusals.{Verdict, accepted, refused, refusedAt, noFault, says}
 use Rattle.tns_refusals.specs.declared.Refusal.{Refusal}
 use Rattle.tns_refusals.specs.declared.Refusal.the-variants.{Duration as D1, Bandwidth, SpectrumLength, ListLength, FilterCount, Order, Index, Weighting}
 use Rattle.tns_refusals.proofs.Sides.{settle, by-refusal, refused-by-checks, passed-by-checks}
-use Rattle.tns_tables.specs.Rules.{every}
-use Rattle.tns_tables.proofs.Outside.{and-left, and-right}
 use Rattle.tns_rows.specs.Durations.{durationOf}
-use Rattle.tns_rows.specs.Bands.{rowsOf, bandFrom, rowOf, frameChecks, frameOf}
+use Rattle.tns_rows.specs.Bands.{rowsOf, bandFrom, rowOf}
 use Rattle.tns_rows.specs.declared.duration.Duration.{Duration}
 use Rattle.tns_rows.specs.declared.duration.Duration.the-variants.{Ten, SevenPointFive}
 use Rattle.tns_rows.specs.declared.row.Band.{Band}
 use Rattle.tns_rows.specs.declared.row.Row.{Row}
-use Rattle.tns_rows.proofs.Frames.{frames-settle, sound-frame, SoundFrame}
-use Rattle.tns_analysis.specs.Steps.{CutWithin}
-use Rattle.tns_encode.specs.Encoder.{sideOf, rowEncoded, weightingIn, encodeVerdict, bitsIn, sideIn, noSide, bitsOf, unlessRefused, spectrumEncoded}
-use Rattle.tns_encode.specs.Steps.{Roomy}
-use Rattle.tns_encode.specs.declared.door.SideData.{SideData}
+use Rattle.tns_frames.specs.Frames.{frameChecks, frameOf}
+use Rattle.tns_frames.proofs.Frames.{frames-settle, sound-frame}
+use Rattle.tns_side.specs.Side.{bitsOf, noSide}
+use Rattle.tns_side.specs.declared.SideData.{SideData}
+use Rattle.tns_encode.specs.Encoder.{sideOf, rowEncoded, weightingIn, encodeVerdict, bitsIn, sideIn, unlessRefused, spectrumEncoded}
 
--- ---- room
+-- ---- cuts
 
-room : Band → Bool
-room b = leb (b .start + 8) (b .«first_cut») && (leb (b .«first_cut» + 8) (b .«second_cut») && leb (b .«second_cut» + 8) (b .stop))
+-- the cuts of a band lie in order between its start and its stop, and that within so many lines
+pub record CutWithin (band : Band) (lines : ℕ) : Type 0 where
+  pub lowest : band .start ≤ band .«first_cut»
+  pub middle : band .«first_cut» ≤ band .«second_cut»
+  pub highest : band .«second_cut» ≤ band .stop
+  pub end : band .stop ≤ lines
 
--- a first band with room, and a second with room or none: one test over all rows
-roomy : List ℕ → Bool
-roomy row = room (bandFrom 0 row) && (eqb (bandFrom 4 row .stop) 0 || room (bandFrom 4 row))
+pub record BandsCut (row : Row) (lines : ℕ) : Type 0 where
+  pub first-cut : CutWithin (row .first) lines
+  pub second-cut : CutWithin (row .second) lines
 
-all-roomy : (d : Duration) → every roomy (rowsOf d) ≡ true
-unfolding roomy room
-all-roomy Ten = refl
-all-roomy SevenPointFive = refl
+in-order : Band → Bool
+in-order b = leb (b .start) (b .«first_cut») && (leb (b .«first_cut») (b .«second_cut») && leb (b .«second_cut») (b .stop))
 
-five-rows : (d : Duration) → length (rowsOf d) ≡ 5
-five-rows Ten = refl
-five-rows SevenPointFive = refl
+-- one test over all rows, which a row of no numbers passes too
+cut-in-order : List ℕ → Bool
+cut-in-order row = in-order (bandFrom 0 row) && in-order (bandFrom 4 row)
 
-every-within : {A : Type 0} (test : A → Bool) (xs : List A) → every test xs ≡ true → (d : A) (i : ℕ) → i < length xs → test (getD xs i d) ≡ true
-every-within test [] all d i h = absurd (not-suc-le-zero h)
-every-within test (x ∷ xs) all d zero h = and-left (test x) (every test xs) all
-every-within test (x ∷ xs) all d (suc i) h = every-within test xs (and-right (test x) (every test xs) all) d i (le-of-suc-le-suc h)
+all-cut : (d : Duration) → every cut-in-order (rowsOf d) ≡ true
+unfolding cut-in-order in-order
+all-cut Ten = refl
+all-cut SevenPointFive = refl
 
-cut-within : (b : Band) (lines : ℕ) → room b ≡ true → b .stop ≤ lines → CutWithin b lines
-unfolding room
+cut-within : (b : Band) (lines : ℕ) → in-order b ≡ true → b .stop ≤ lines → CutWithin b lines
+unfolding in-order
 cut-within b lines e h =
-    let first = leb (b .start + 8) (b .«first_cut») in
-    let second = leb (b .«first_cut» + 8) (b .«second_cut») in
-    let third = leb (b .«second_cut» + 8) (b .stop) in
+    let first = leb (b .start) (b .«first_cut») in
+    let second = leb (b .«first_cut») (b .«second_cut») in
+    let third = leb (b .«second_cut») (b .stop) in
     let rest = and-right first (second && third) e in
     record {
       lowest = leb-true _ _ (and-left first (second && third) e);
@@ -65,33 +66,20 @@ cut-within b lines e h =
       end = h;
     }
 
-or-right : (a b : Bool) → a ≡ false → a || b ≡ true → b ≡ true
-or-right a b e h = rw e at h
-
-room-of : (d : Duration) (bandwidth lines : ℕ) → bandwidth ≤ 4 → max (rowOf d bandwidth .first .stop) (rowOf d bandwidth .second .stop) ≤ lines → Roomy (rowOf d bandwidth) lines
-unfolding rowOf roomy
-room-of d bandwidth lines narrow enough =
+bands-cut : (d : Duration) (bandwidth lines : ℕ) → max (rowOf d bandwidth .first .stop) (rowOf d bandwidth .second .stop) ≤ lines → BandsCut (rowOf d bandwidth) lines
+unfolding rowOf cut-in-order in-order
+bands-cut d bandwidth lines enough =
     let row = getD (rowsOf d) bandwidth [] in
-    let first = bandFrom 0 row in
-    let second = bandFrom 4 row in
-    let all = every-within roomy (rowsOf d) (all-roomy d) [] bandwidth (omega (arith, five-rows d)) in
+    let all = every-at cut-in-order (rowsOf d) (all-cut d) [] refl bandwidth in
     record {
-      first-cut = cut-within first lines (and-left (room first) (eqb (second .stop) 0 || room second) all) (omega arith);
-      second-cut =
-          λ h. cut-within second lines
-          (or-right (eqb (second .stop) 0) (room second) (ne-eqb (second .stop) 0 h) (and-right (room first) (eqb (second .stop) 0 || room second) all))
-          (omega arith);
+      first-cut = cut-within (bandFrom 0 row) lines (and-left (in-order (bandFrom 0 row)) (in-order (bandFrom 4 row)) all) (omega arith);
+      second-cut = cut-within (bandFrom 4 row) lines (and-right (in-order (bandFrom 0 row)) (in-order (bandFrom 4 row)) all) (omega arith);
     }
 
-pub roomy-row : (duration bandwidth lines : ℕ) (row : Row) → frameOf duration bandwidth lines ≡ accepted row → Roomy row lines
-roomy-row duration bandwidth lines row e =
+pub cut-row : (duration bandwidth lines : ℕ) (row : Row) → frameOf duration bandwidth lines ≡ accepted row → BandsCut row lines
+cut-row duration bandwidth lines row e =
     let s = sound-frame duration bandwidth lines row e in
-    rw (s .its-row) (room-of (durationOf duration) bandwidth lines (s .narrow) (s .enough))
-
--- whether a row has a second band, as the code tests it and as the definition does
-pub two-is : (b : Bool) → not b ≡ cond b false true
-two-is true = refl
-two-is false = refl
+    rw (s .its-row) (bands-cut (durationOf duration) bandwidth lines (s .enough))
 
 -- ---- what the checks make of the call
 

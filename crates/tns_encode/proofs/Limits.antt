@@ -6,18 +6,20 @@ use Prim.Native.Nat.{ℕ, zero, suc, _+_, _≤_, _<_}
 use native.Mathlib.Omega.{arith}
 use lib.Ieee.{Float}
 use lib.ListN.{length, length-map, length-append, replicate}
-use Rattle.tns_tables.specs.Quantizer.{indexOf, coefficientOf, orderOf}
-use Rattle.tns_tables.proofs.Indices.{order-at-most, index-at-most}
-use Rattle.tns_analysis.specs.Floats.{tab}
+use Rattle.tns_index.specs.Quantizer.{indexOf, coefficientOf, orderOf}
+use Rattle.tns_index.proofs.Indices.{order-at-most, index-at-most}
+use Rattle.tns_lists.specs.Places.{tab}
 use Rattle.tns_analysis.specs.Analysis.{reflectionsOf, recordOf}
-use Rattle.tns_analysis.specs.Reflections.{reflections}
-use Rattle.tns_analysis.proofs.Tab.{length-tab}
+use Rattle.tns_reflections.specs.Reflections.{reflections}
+use Rattle.tns_lists.proofs.Tab.{length-tab}
 use Rattle.tns_rows.specs.declared.row.Band.{Band}
 use Rattle.tns_rows.specs.declared.row.Row.{Row}
-use Rattle.tns_encode.specs.Quantized.{quantizedOf, absent}
-use Rattle.tns_encode.specs.Encoder.{filterOf, secondOf, hasSecond}
-use Rattle.tns_encode.specs.Steps.{Within8}
-use Rattle.tns_encode.specs.declared.quantize.Quantized.{Quantized}
+use Rattle.tns_side.specs.Quantized.{quantizedOf, absent}
+use Rattle.tns_encode.specs.Encoder.{filterOf, secondOf, hasSecond, sideOf}
+use Rattle.tns_side.specs.Limits.{Within8}
+use Rattle.tns_encode.specs.Steps.{Reported}
+use Rattle.tns_side.proofs.Limits.{quantized-within, absent-within}
+use Rattle.tns_side.specs.declared.Quantized.{Quantized}
 
 either-length : (on : Bool) (xs ys : List Float) (n : ℕ) → length xs ≡ n → length ys ≡ n → length (cond on xs ys) ≡ n
 either-length true xs ys n p q = p
@@ -32,19 +34,6 @@ eight-reflections : (b : Band) (lines : List Float) (flag : Bool) (weighting : �
 unfolding reflectionsOf
 eight-reflections b lines flag weighting = either-length (recordOf b lines flag weighting .on) _ _ 8 (eight-of-row _) refl
 
-quantized-within : (r : List Float) → length r ≡ 8 → Within8 (quantizedOf r)
-unfolding quantizedOf
-quantized-within r l =
-    record {
-      order-at-most-8 = omega (arith, order-at-most (map indexOf r), length-map r indexOf);
-      eight-indices = length-map r indexOf ∙ l;
-      eight-coefficients = length-map (map indexOf r) coefficientOf ∙ length-map r indexOf ∙ l;
-    }
-
-pub absent-within : Within8 absent
-unfolding absent
-absent-within = record { order-at-most-8 = omega arith; eight-indices = refl; eight-coefficients = refl }
-
 pub filter-within : (b : Band) (lines : List Float) (flag : Bool) (weighting : ℕ) → Within8 (filterOf b lines flag weighting)
 unfolding filterOf
 filter-within b lines flag weighting = quantized-within (reflectionsOf b lines flag weighting) (eight-reflections b lines flag weighting)
@@ -56,3 +45,18 @@ either-within false f g p q = q
 pub second-within : (row : Row) (lines : List Float) (flag : Bool) (weighting : ℕ) → Within8 (secondOf row lines flag weighting)
 unfolding secondOf
 second-within row lines flag weighting = either-within (hasSecond row) _ _ (filter-within (row .second) lines flag weighting) absent-within
+
+one-or-two : (two : Bool) → (1 ≤ cond two 2 1) × (cond two 2 1 ≤ 2)
+one-or-two true = (omega arith, omega arith)
+one-or-two false = (omega arith, omega arith)
+
+-- what the analysis of a frame leaves
+pub side-reported : (row : Row) (lines : List Float) (flag : Bool) (weighting : ℕ) → Reported (sideOf row lines flag weighting)
+unfolding sideOf
+side-reported row lines flag weighting =
+    record {
+      first = filter-within (row .first) lines flag weighting;
+      second = second-within row lines flag weighting;
+      one = one-or-two (hasSecond row) .0;
+      two = one-or-two (hasSecond row) .1;
+    }

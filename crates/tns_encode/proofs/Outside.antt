@@ -1,35 +1,32 @@
 -- Document 01, "Band rows": lines outside the bands never change and affect nothing. The laws are of the encode call's spectrum and side data, for
 -- every call, and stand at the end; a refused call changes no line at all. Assumes nothing.
-use mathlib.Core.Path.{_≡_, refl, sym, _∙_, ap, subst}
-use mathlib.Core.Logic.{⊎-swap}
+use mathlib.Core.Path.{_≡_, refl, sym, _∙_, ap}
 use mathlib.Core.Bool.{Bool, true, false, cond}
 use mathlib.Core.List.{List}
-use Prim.Native.Nat.{ℕ, zero, suc, _+_, _-_, _≤_, _<_}
+use Prim.Native.Nat.{ℕ, _+_, _-_, _≤_, _<_}
 use native.Mathlib.Omega.{arith}
 use lib.Dec.{eqb}
-use borrow.Author.Tests.{eq-eqb, ne-eqb}
 use lib.Ieee.{Float, nan}
 use lib.ListN.{length, getD}
 use lib.Seq.{ext-getD}
-use native.Mathlib.Decide.{ℕ-discrete}
 use Rattle.tns_refusals.specs.Refusals.{Verdict, accepted, refused, refusedAt, noFault}
 use Rattle.tns_refusals.proofs.Sides.{settle}
 use Rattle.tns_rows.specs.Durations.{kept, durationOf}
-use Rattle.tns_rows.specs.Bands.{rowOf, bandOf, lastStop, frameChecks, frameOf, inside, within}
+use Rattle.tns_rows.specs.Bands.{rowOf, lastStop, inside}
 use Rattle.tns_rows.specs.declared.row.Band.{Band}
 use Rattle.tns_rows.specs.declared.row.Row.{Row}
-use Rattle.tns_rows.proofs.Frames.{Fits, SoundRow, sound-row, frames-settle}
-use Rattle.tns_rows.proofs.Apart.{Outside, Apart, inside-length, inside-at, within-length, within-outside, inside-within, inside-other, row-apart, early-outside, late-outside}
-use Rattle.tns_rows.proofs.InPlace.{through-length}
-use Rattle.tns_analysis.specs.Autocorrelation.{autocorrelation, part, lowest, middle, highest}
+use Rattle.tns_rows.proofs.Bands.{Fits, SoundRow}
+use Rattle.tns_rows.proofs.Apart.{Outside, inside-length, inside-at, row-apart, early-outside, late-outside}
+use Rattle.tns_frames.specs.Frames.{frameChecks, frameOf}
+use Rattle.tns_frames.proofs.Frames.{sound-row, frames-settle}
+use Rattle.tns_lags.specs.Autocorrelation.{autocorrelation, part}
 use Rattle.tns_analysis.specs.Analysis.{recordOf, reflectionsOf}
-use Rattle.tns_analysis.specs.Steps.{CutWithin}
-use Rattle.tns_encode.specs.Lattice.{linesEncoded, statesAfter}
-use Rattle.tns_encode.specs.Encoder.{atRest, filterOf, secondOf, sideOf, twoEncoded, rowEncoded, weightingIn, encodeVerdict, unlessRefused, spectrumEncoded}
-use Rattle.tns_encode.specs.Steps.{Roomy}
-use Rattle.tns_encode.specs.declared.quantize.Quantized.{Quantized}
-use Rattle.tns_encode.specs.declared.door.SideData.{SideData}
-use Rattle.tns_encode.proofs.Frames.{roomy-row}
+use Rattle.tns_lattices.specs.States.{atRest}
+use Rattle.tns_lattices.specs.EncoderLattice.{linesEncoded, statesAfter}
+use Rattle.tns_lattices.proofs.TwoBands.{two-length, two-outside, first-inside, second-inside}
+use Rattle.tns_side.specs.declared.SideData.{SideData}
+use Rattle.tns_encode.specs.Encoder.{hasSecond, filterOf, secondOf, sideOf, filteredBy, rowEncoded, weightingIn, encodeVerdict, unlessRefused, spectrumEncoded}
+use Rattle.tns_encode.proofs.Frames.{CutWithin, BandsCut, cut-row}
 
 -- ---- the analysis of a band depends on its own lines alone
 
@@ -61,67 +58,6 @@ module _ (b : Band) (xs ys : List Float) (long : length xs ≡ length ys) (cut :
   pub same-filter : (flag : Bool) (weighting : ℕ) → filterOf b xs flag weighting ≡ filterOf b ys flag weighting
   unfolding filterOf reflectionsOf recordOf
   same-filter flag weighting = rw same-autocorrelation
-
--- ---- the two filters in a row whose bands are apart
-
-encoded-length : (q : List Float) (order : ℕ) (states xs : List Float) → length (linesEncoded q order states xs) ≡ length xs
-unfolding linesEncoded
-encoded-length q order states xs = through-length _ _ nan states xs
-
-module _ (row : Row) (a b : Quantized) (xs : List Float) (sound : SoundRow row (length xs)) where
-  firstChange : List Float → List Float
-  firstChange = linesEncoded (a .coefficients) (a .order) atRest
-
-  secondChange : List Float → List Float
-  secondChange = linesEncoded (b .coefficients) (b .order) (statesAfter (a .coefficients) (a .order) atRest (inside (row .first) xs))
-
-  one : List Float
-  one = within (row .first) firstChange xs
-
-  both-are : twoEncoded row a b xs ≡ within (row .second) secondChange one
-  unfolding twoEncoded one firstChange secondChange
-  both-are = refl
-
-  first-long : length (firstChange (inside (row .first) xs)) ≡ length (inside (row .first) xs)
-  unfolding firstChange
-  first-long = encoded-length _ _ _ _
-
-  second-long : length (secondChange (inside (row .second) one)) ≡ length (inside (row .second) one)
-  unfolding secondChange
-  second-long = encoded-length _ _ _ _
-
-  one-length : length one ≡ length xs
-  unfolding one
-  one-length = within-length (row .first) firstChange xs (sound .first-fits) first-long
-
-  second-fits-one : Fits (row .second) (length one)
-  second-fits-one = subst (λ (n : ℕ). Fits (row .second) n) (sym one-length) (sound .second-fits)
-
-  two-length : length (twoEncoded row a b xs) ≡ length xs
-  two-length = ap length both-are ∙ within-length (row .second) secondChange one second-fits-one second-long ∙ one-length
-
-  two-outside : (i : ℕ) → Outside (row .first) i → Outside (row .second) i → getD (twoEncoded row a b xs) i nan ≡ getD xs i nan
-  unfolding one
-  two-outside i o p =
-      ap (λ (l : List Float). getD l i nan) both-are
-      ∙ within-outside (row .second) secondChange one second-fits-one second-long i p
-      ∙ within-outside (row .first) firstChange xs (sound .first-fits) first-long i o
-
-  module _ (apart : Apart (row .first) (row .second)) where
-    pub first-inside : inside (row .first) (twoEncoded row a b xs) ≡ linesEncoded (a .coefficients) (a .order) atRest (inside (row .first) xs)
-    unfolding one firstChange
-    first-inside =
-        ap (inside (row .first)) both-are
-        ∙ inside-other (row .second) secondChange one second-fits-one second-long (row .first) (subst (λ (n : ℕ). Fits (row .first) n) (sym one-length) (sound .first-fits)) apart
-        ∙ inside-within (row .first) firstChange xs (sound .first-fits) first-long
-
-    pub second-inside : inside (row .second) (twoEncoded row a b xs)
-        ≡ linesEncoded (b .coefficients) (b .order) (statesAfter (a .coefficients) (a .order) atRest (inside (row .first) xs)) (inside (row .second) xs)
-    unfolding one secondChange
-    second-inside =
-        ap (inside (row .second)) both-are
-        ∙ inside-within (row .second) secondChange one second-fits-one second-long
-        ∙ ap secondChange (inside-other (row .first) firstChange xs (sound .first-fits) first-long (row .second) (sound .second-fits) (⊎-swap apart))
 
 -- ---- the encode call
 
@@ -165,17 +101,17 @@ module _ (duration bandwidth nbits : ℕ) (flag : Bool) where
 
   -- a call leaves as many lines as it finds
   pub as-many-lines : (lines : List Float) → length (after lines) ≡ length lines
-  unfolding rowEncoded
+  unfolding rowEncoded filteredBy sideOf
   as-many-lines lines =
       by-verdict lines (λ l. length l ≡ length lines) refl
-      (λ sound. two-length row (filterOf (row .first) lines flag weighting) (secondOf row lines flag weighting) lines sound)
+      (λ sound. two-length row _ _ _ _ lines sound)
 
   -- lines outside the bands never change
   pub outside-never-changes : (lines : List Float) (i : ℕ) → Outside (row .first) i → Outside (row .second) i → getD (after lines) i nan ≡ getD lines i nan
-  unfolding rowEncoded
+  unfolding rowEncoded filteredBy sideOf
   outside-never-changes lines i o p =
       by-verdict lines (λ l. getD l i nan ≡ getD lines i nan) refl
-      (λ sound. two-outside row (filterOf (row .first) lines flag weighting) (secondOf row lines flag weighting) lines sound i o p)
+      (λ sound. two-outside row _ _ _ _ lines sound i o p)
 
   pub early-lines-stay : (lines : List Float) (i : ℕ) → i < kept (durationOf duration) .firstLine → getD (after lines) i nan ≡ getD lines i nan
   early-lines-stay lines i h =
@@ -192,34 +128,31 @@ module _ (duration bandwidth nbits : ℕ) (flag : Bool) where
     same-frame : frame (length xs) ≡ frame (length ys)
     same-frame = ap frame long
 
-    same-first : Roomy row (length xs) → filterOf (row .first) xs flag weighting ≡ filterOf (row .first) ys flag weighting
-    same-first room = same-filter (row .first) xs ys long (room .first-cut) first flag weighting
+    same-first : BandsCut row (length xs) → filterOf (row .first) xs flag weighting ≡ filterOf (row .first) ys flag weighting
+    same-first cut = same-filter (row .first) xs ys long (cut .first-cut) first flag weighting
 
-    same-second : Roomy row (length xs) → secondOf row xs flag weighting ≡ secondOf row ys flag weighting
+    same-second : BandsCut row (length xs) → secondOf row xs flag weighting ≡ secondOf row ys flag weighting
     unfolding secondOf
-    same-second room = elim (ℕ-discrete (row .second .stop) 0) [
-      | yes none ↦ rw (eq-eqb (row .second .stop) 0 none)
-      | no some ↦ rw (ne-eqb (row .second .stop) 0 some) (same-filter (row .second) xs ys long (room .second-cut some) second flag weighting)
-    ]
+    same-second cut = rw (same-filter (row .second) xs ys long (cut .second-cut) second flag weighting)
 
-    same-side : Roomy row (length xs) → sideOf row xs flag weighting ≡ sideOf row ys flag weighting
+    same-side : BandsCut row (length xs) → sideOf row xs flag weighting ≡ sideOf row ys flag weighting
     unfolding sideOf
-    same-side room = rw (same-first room, same-second room)
+    same-side cut = rw (same-first cut, same-second cut)
 
-    same-encoded : Roomy row (length xs) → SoundRow row (length xs) → SoundRow row (length ys)
+    same-encoded : BandsCut row (length xs) → SoundRow row (length xs) → SoundRow row (length ys)
         → (inside (row .first) (rowEncoded row xs flag weighting) ≡ inside (row .first) (rowEncoded row ys flag weighting))
         × (inside (row .second) (rowEncoded row xs flag weighting) ≡ inside (row .second) (rowEncoded row ys flag weighting))
-    unfolding rowEncoded
-    same-encoded room sx sy =
+    unfolding rowEncoded filteredBy sideOf
+    same-encoded cut sx sy =
         let apart = row-apart (durationOf duration) bandwidth in
         let a = filterOf (row .first) ys flag weighting in
         let b = secondOf row ys flag weighting in
-        rw (same-first room, same-second room) (
-          first-inside row a b xs sx apart ∙ ap (linesEncoded (a .coefficients) (a .order) atRest) first ∙ sym (first-inside row a b ys sy apart),
-          second-inside row a b xs sx apart
+        rw (same-first cut, same-second cut) (
+          first-inside row (a .coefficients) (a .order) (b .coefficients) (b .order) xs sx apart ∙ ap (linesEncoded (a .coefficients) (a .order) atRest) first ∙ sym (first-inside row (a .coefficients) (a .order) (b .coefficients) (b .order) ys sy apart),
+          second-inside row (a .coefficients) (a .order) (b .coefficients) (b .order) xs sx apart
               ∙ ap (λ (l : List Float). linesEncoded (b .coefficients) (b .order) (statesAfter (a .coefficients) (a .order) atRest l) (inside (row .second) xs)) first
               ∙ ap (linesEncoded (b .coefficients) (b .order) (statesAfter (a .coefficients) (a .order) atRest (inside (row .first) ys))) second
-              ∙ sym (second-inside row a b ys sy apart),
+              ∙ sym (second-inside row (a .coefficients) (a .order) (b .coefficients) (b .order) ys sy apart),
         )
 
     pub same-verdict : encodeVerdict duration bandwidth nbits flag xs ≡ encodeVerdict duration bandwidth nbits flag ys
@@ -228,7 +161,7 @@ module _ (duration bandwidth nbits : ℕ) (flag : Bool) where
         cases : (v : Verdict (Unit {0})) → frame (length ys) ≡ v → encodeVerdict duration bandwidth nbits flag xs ≡ encodeVerdict duration bandwidth nbits flag ys
         cases (accepted u) e =
             verdict-by xs (accepted u) (same-frame ∙ e)
-            ∙ ap accepted (same-side (roomy-row duration bandwidth (length xs) row (frame-by (length xs) (accepted u) (same-frame ∙ e))))
+            ∙ ap accepted (same-side (cut-row duration bandwidth (length xs) row (frame-by (length xs) (accepted u) (same-frame ∙ e))))
             ∙ sym (verdict-by ys (accepted u) e)
         cases (refused n) e = verdict-by xs (refused n) (same-frame ∙ e) ∙ sym (verdict-by ys (refused n) e)
         cases (refusedAt n p f) e = verdict-by xs (refusedAt n p f) (same-frame ∙ e) ∙ sym (verdict-by ys (refusedAt n p f) e)
@@ -242,6 +175,6 @@ module _ (duration bandwidth nbits : ℕ) (flag : Bool) where
             let ex = frame-by (length xs) (accepted u) (same-frame ∙ e) in
             let ey = frame-by (length ys) (accepted u) e in
             rw (after-by xs (accepted u) (same-frame ∙ e), after-by ys (accepted u) e)
-            (same-encoded (roomy-row duration bandwidth (length xs) row ex) (sound-row duration bandwidth (length xs) row ex) (sound-row duration bandwidth (length ys) row ey))
+            (same-encoded (cut-row duration bandwidth (length xs) row ex) (sound-row duration bandwidth (length xs) row ex) (sound-row duration bandwidth (length ys) row ey))
         cases (refused n) e = rw (after-by xs (refused n) (same-frame ∙ e), after-by ys (refused n) e) (first, second)
         cases (refusedAt n p f) e = rw (after-by xs (refusedAt n p f) (same-frame ∙ e), after-by ys (refusedAt n p f) e) (first, second)

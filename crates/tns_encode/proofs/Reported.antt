@@ -11,17 +11,18 @@ use lib.Ieee.{Float}
 use lib.ListN.{length, length-append, replicate}
 use Rattle.tns_refusals.specs.Refusals.{Verdict, accepted, check, checkAt, sideChecks, lowestOver, SoundSide}
 use Rattle.tns_refusals.specs.declared.Over.the-variants.{Nowhere}
-use Rattle.tns_tables.specs.Quantizer.{indexOf}
-use Rattle.tns_tables.specs.Cost.{costOf, countedBits}
-use Rattle.tns_tables.proofs.Indices.{index-at-most}
+use Rattle.tns_index.specs.Quantizer.{indexOf}
+use Rattle.tns_cost.specs.Cost.{costOf, countedBits}
+use Rattle.tns_index.proofs.Indices.{index-at-most}
 use Rattle.tns_rows.specs.Durations.{Kept, kept, durationOf, weightingOf}
 use Rattle.tns_rows.specs.declared.row.Band.{Band}
 use Rattle.tns_rows.specs.declared.row.Row.{Row}
 use Rattle.tns_analysis.specs.Analysis.{reflectionsOf}
-use Rattle.tns_encode.specs.Quantized.{quantizedOf, absent}
-use Rattle.tns_encode.specs.Encoder.{hasSecond, filterOf, secondOf, sideOf, bitsOf, weightingIn}
-use Rattle.tns_encode.specs.Steps.{Within8}
-use Rattle.tns_encode.specs.declared.quantize.Quantized.{Quantized}
+use Rattle.tns_side.specs.Quantized.{quantizedOf, absent}
+use Rattle.tns_encode.specs.Encoder.{hasSecond, filterOf, secondOf, sideOf, weightingIn}
+use Rattle.tns_side.specs.Side.{ordersIn, indicesIn, bitsOf}
+use Rattle.tns_side.specs.Limits.{Within8}
+use Rattle.tns_side.specs.declared.Quantized.{Quantized}
 use Rattle.tns_encode.proofs.Limits.{filter-within, second-within}
 
 -- ---- numbers within a limit
@@ -59,7 +60,7 @@ second-indices row lines flag weighting = either (hasSecond row)
 
 module _ (row : Row) (lines : List Float) (flag : Bool) (weighting : ℕ) where
   -- orders at most 8, indices at most 16, lists of their lengths, one or two filters
-  pub reported-sound : SoundSide (sideOf row lines flag weighting .filters) (sideOf row lines flag weighting .orders) (sideOf row lines flag weighting .indices)
+  pub reported-sound : SoundSide (sideOf row lines flag weighting .filters) (ordersIn (sideOf row lines flag weighting)) (indicesIn (sideOf row lines flag weighting))
   unfolding sideOf
   reported-sound =
       let a = filterOf (row .first) lines flag weighting in
@@ -105,7 +106,7 @@ its-weighting duration nbits row lines flag = weighting-at-most-1 (kept (duratio
 -- the cost door gives the reported side data the reported bits
 pub reported-bits : (duration nbits : ℕ) (row : Row) (lines : List Float) (flag : Bool) →
     let s = sideOf row lines flag (weightingIn duration nbits) in
-    costOf (s .weighting) (s .filters) (s .orders) (s .indices) ≡ accepted (bitsOf s)
+    costOf (s .weighting) (s .filters) (ordersIn s) (indicesIn s) ≡ accepted (bitsOf s)
 reported-bits duration nbits row lines flag =
     let s = sideOf row lines flag (weightingIn duration nbits) in
-    costs (s .weighting) (s .filters) (s .orders) (s .indices) (reported-sound row lines flag (weightingIn duration nbits)) (its-weighting duration nbits row lines flag)
+    costs (s .weighting) (s .filters) (ordersIn s) (indicesIn s) (reported-sound row lines flag (weightingIn duration nbits)) (its-weighting duration nbits row lines flag)

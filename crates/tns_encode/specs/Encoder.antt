@@ -1,24 +1,24 @@
 -- The encode call: its answer, the side data beside it, and the spectrum after it. Assumes nothing.
 use mathlib.Core.Bool.{Bool, true, false, cond}
-use mathlib.Core.List.{List, [], _∷_, _++_}
+use mathlib.Core.List.{List}
 use Prim.Native.Nat.{ℕ}
 use lib.Dec.{eqb}
-use lib.ListN.{length, replicate}
+use lib.ListN.{length}
 use lib.Ieee.{Float}
 use Rattle.tns_refusals.specs.Refusals.{Verdict, accepted, refused, refusedAt, says}
-use Rattle.tns_tables.specs.Quantizer.{plusZero}
-use Rattle.tns_tables.specs.Cost.{countedBits}
 use Rattle.tns_rows.specs.Durations.{kept, durationOf, weightingOf}
-use Rattle.tns_rows.specs.Bands.{rowOf, frameChecks, inside, within}
-use Rattle.tns_rows.specs.declared.row.Row.{Row}
+use Rattle.tns_rows.specs.Bands.{rowOf}
 use Rattle.tns_rows.specs.declared.row.Band.{Band}
+use Rattle.tns_rows.specs.declared.row.Row.{Row}
+use Rattle.tns_frames.specs.Frames.{frameChecks}
 use Rattle.tns_analysis.specs.Analysis.{reflectionsOf}
-use Rattle.tns_encode.specs.Quantized.{quantizedOf, absent}
-use Rattle.tns_encode.specs.Lattice.{linesEncoded, statesAfter}
-use Rattle.tns_encode.specs.declared.quantize.Quantized.{Quantized}
-use Rattle.tns_encode.specs.declared.door.SideData.{SideData}
-use Rattle.tns_encode.specs.declared.door.EncodeAnswer.{EncodeAnswer}
-use Rattle.tns_encode.specs.declared.door.EncodeAnswer.the-variants.{Bits, Refused}
+use Rattle.tns_lattices.specs.TwoBands.{twoEncoded}
+use Rattle.tns_side.specs.Quantized.{quantizedOf, absent}
+use Rattle.tns_side.specs.Side.{bitsOf, noSide}
+use Rattle.tns_side.specs.declared.Quantized.{Quantized}
+use Rattle.tns_side.specs.declared.SideData.{SideData}
+use Rattle.tns_encode.specs.declared.EncodeAnswer.{EncodeAnswer}
+use Rattle.tns_encode.specs.declared.EncodeAnswer.the-variants.{Bits, Refused}
 
 -- the row has a second band
 abbrev pub hasSecond : Row → Bool
@@ -31,38 +31,26 @@ filterOf band lines flag weighting = quantizedOf (reflectionsOf band lines flag 
 unfoldable pub secondOf : Row → List Float → Bool → ℕ → Quantized
 secondOf row lines flag weighting = cond (hasSecond row) (filterOf (row .second) lines flag weighting) absent
 
--- the side data of two filters
-abbrev pub sideWith : ℕ → ℕ → Quantized → Quantized → SideData
-sideWith weighting filters first second =
-    record {
-      weighting = weighting;
-      filters = filters;
-      orders = first .order ∷ second .order ∷ [];
-      indices = first .indices ++ second .indices;
-      coefficients = first .coefficients ++ second .coefficients;
-    }
-
 -- the side data of a frame: a filter for each band of its row
+abbrev pub countOf : Row → ℕ
+countOf row = cond (hasSecond row) 2 1
+
 unfoldable pub sideOf : Row → List Float → Bool → ℕ → SideData
 sideOf row lines flag weighting =
-    sideWith weighting (cond (hasSecond row) 2 1) (filterOf (row .first) lines flag weighting) (secondOf row lines flag weighting)
+    record {
+      weighting = weighting;
+      filters = countOf row;
+      first = filterOf (row .first) lines flag weighting;
+      second = secondOf row lines flag weighting;
+    }
 
--- its cost
-abbrev pub bitsOf : SideData → ℕ
-bitsOf s = countedBits (s .weighting) (s .filters) (s .orders) (s .indices)
-
--- eight state numbers start at 0 and carry from filter 0 into filter 1
-abbrev pub atRest : List Float
-atRest = replicate 8 plusZero
-
-unfoldable pub twoEncoded : Row → Quantized → Quantized → List Float → List Float
-twoEncoded row first second lines =
-    within (row .second)
-    (linesEncoded (second .coefficients) (second .order) (statesAfter (first .coefficients) (first .order) atRest (inside (row .first) lines)))
-    (within (row .first) (linesEncoded (first .coefficients) (first .order) atRest) lines)
+-- the lines through both filters of some side data, each in its band
+unfoldable pub filteredBy : SideData → Row → List Float → List Float
+filteredBy side row lines =
+    twoEncoded row (side .first .coefficients) (side .first .order) (side .second .coefficients) (side .second .order) lines
 
 unfoldable pub rowEncoded : Row → List Float → Bool → ℕ → List Float
-rowEncoded row lines flag weighting = twoEncoded row (filterOf (row .first) lines flag weighting) (secondOf row lines flag weighting) lines
+rowEncoded row lines flag weighting = filteredBy (sideOf row lines flag weighting) row lines
 
 -- the weighting of a call
 abbrev pub weightingIn : ℕ → ℕ → ℕ
@@ -74,10 +62,7 @@ encodeVerdict duration bandwidth nbits flag lines =
     frameChecks duration bandwidth (length lines)
     (accepted (sideOf (rowOf (durationOf duration) bandwidth) lines flag (weightingIn duration nbits)))
 
--- a refusal gives no other results
-abbrev pub noSide : SideData
-noSide = record { weighting = 0; filters = 0; orders = replicate 2 0; indices = replicate 16 0; coefficients = replicate 16 plusZero }
-
+-- the side data of an accepted call; a refusal gives no other results
 abbrev pub sideIn : Verdict SideData → SideData
 sideIn (accepted side) = side
 sideIn (refused number) = noSide

@@ -1,7 +1,3 @@
--- What a reader has to believe of the encoder, in the order of document 01's headings.
-pub mod Quantized
-pub mod Lattice
+-- What a reader has to believe of the encode call.
 pub mod Encoder
-pub mod Exact
-mod Worked
 pub mod Steps

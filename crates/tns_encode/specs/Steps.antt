@@ -1,24 +1,11 @@
--- What the contracts of inner functions cite. No public promise rests on these names.
--- Assumes nothing.
-use mathlib.Core.Path.{_≡_}
-use mathlib.Core.Bool.{Bool, true, false, cond}
+-- What the contracts of inner functions cite. No public promise rests on this name. Assumes nothing.
 use Prim.Native.Nat.{ℕ, _≤_}
-use lib.ListN.{length}
-use Rattle.tns_analysis.specs.Steps.{CutWithin}
-use Rattle.tns_rows.specs.declared.row.Row.{Row}
-use Rattle.tns_encode.specs.declared.quantize.Quantized.{Quantized}
+use Rattle.tns_side.specs.Limits.{Within8}
+use Rattle.tns_side.specs.declared.SideData.{SideData}
 
--- a filter within the limits: order at most 8, eight indices, eight coefficients
-pub record Within8 (f : Quantized) : Type 0 where
-  pub order-at-most-8 : f .order ≤ 8
-  pub eight-indices : length (f .indices) ≡ 8
-  pub eight-coefficients : length (f .coefficients) ≡ 8
-
--- a row whose bands' subbands have room for eight lags
-pub record Roomy (row : Row) (lines : ℕ) : Type 0 where
-  pub first-cut : CutWithin (row .first) lines
-  pub second-cut : (row .second .stop ≡ 0 → ⊥) → CutWithin (row .second) lines
-
--- how many filters a row has
-abbrev pub countOf : Bool → ℕ
-countOf two = cond two 2 1
+-- side data as the analysis leaves it: one filter or two, each within the limits
+pub record Reported (side : SideData) : Type 0 where
+  pub first : Within8 (side .first)
+  pub second : Within8 (side .second)
+  pub one : 1 ≤ side .filters
+  pub two : side .filters ≤ 2

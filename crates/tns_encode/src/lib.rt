@@ -1,10 +1,196 @@
-// The encoder: it analyses the bands of a frame, quantizes what it finds, and filters the lines in
-// the caller's own spectrum. Assumes nothing.
-mod door;
-mod lattice;
-mod quantize;
+// The encode call: it checks a frame, analyses its bands, quantizes what it finds, and filters the
+// bands in the caller's own spectrum. Assumes nothing.
+use tns_analysis::analyse;
+use tns_cost::filter_bits;
+use tns_frames::FrameAnswer;
+use tns_frames::check_frame;
+use tns_lattices::band_encoded;
+use tns_refusals::Refusal;
+use tns_rows::Band;
+use tns_rows::Row;
+use tns_rows::duration_of;
+use tns_rows::lpc_weighting;
+use tns_side::Quantized;
+use tns_side::SideData;
+use tns_side::none;
+use tns_side::quantize_all;
+ghost use mathlib.Core.Path.{_≡_};
+ghost use Prim.Native.Nat.{_≤_};
+ghost use lib.ListN.{length};
+ghost use Rattle.tns_refusals.specs.Refusals.{accepted, says};
+ghost use Rattle.tns_rows.specs.Durations.{durationOf};
+ghost use Rattle.tns_rows.specs.Bands.{inside, within, rowOf};
+ghost use Rattle.tns_rows.proofs.Bands.{Fits, SoundRow};
+ghost use Rattle.tns_lattices.specs.EncoderLattice.{linesEncoded, statesAfter};
+ghost use Rattle.tns_side.specs.Side.{bitsOf, noFilter, noSide};
+ghost use Rattle.tns_exact.specs.Exact.{IfAccepted, NearExact};
+ghost use Rattle.tns_encode.specs.Encoder.{countOf, filterOf, secondOf, sideOf, filteredBy, rowEncoded, encodeVerdict, bitsIn, sideIn, encodeSays, spectrumEncoded};
+ghost use Rattle.tns_encode.specs.Steps.{Reported};
 
-pub use door::EncodeAnswer;
-pub use door::Encoded;
-pub use door::SideData;
-pub use door::encode;
+// The answer of `encode`: the bits of the side data, or why there are none.
+pub enum EncodeAnswer {
+    Bits(u16),
+    Refused(Refusal),
+}
+
+// The answer, with the side data beside it.
+pub struct Encoded {
+    pub answer: EncodeAnswer,
+    pub side: SideData,
+}
+
+// The filter of a band.
+fn filter_of(lines: &[f32], band: Band, flag: bool, weighting: u8) -> Quantized
+    ensures { λ r. ⌜ r ≡ filterOf band (now (lines .entry)) flag weighting ⌝ }
+{
+    let found = analyse(lines, band, flag, weighting);
+    if found.gain.on {
+        let reflections = found.reflections;
+        return quantize_all(reflections);
+    }
+    none()
+}
+
+// The filter of the second band, or of none.
+fn second_of(lines: &[f32], row: Row, flag: bool, weighting: u8) -> Quantized
+    ensures { λ r. ⌜ r ≡ secondOf row (now (lines .entry)) flag weighting ⌝ }
+{
+    if row.second.stop == 0 {
+        return none();
+    }
+    filter_of(lines, row.second, flag, weighting)
+}
+
+fn count_of(row: Row) -> u8
+    ensures { λ r. ⌜ r ≡ countOf row ⌝ }
+{
+    if row.second.stop == 0 { 1 } else { 2 }
+}
+
+// The side data of a frame: a filter for each band of its row.
+fn side_of(lines: &[f32], row: Row, flag: bool, weighting: u8) -> SideData
+    ensures { λ r. ⌜ r ≡ sideOf row (now (lines .entry)) flag weighting ⌝ }
+{
+    let first = filter_of(lines, row.first, flag, weighting);
+    let second = second_of(lines, row, flag, weighting);
+    let filters = count_of(row);
+    SideData {
+        weighting,
+        filters,
+        first,
+        second,
+    }
+}
+
+// The bits of one filter or of two, each rounded up by itself.
+fn side_bits(side: SideData) -> u16
+    requires { ⌜ Reported side ⌝ }
+    ensures { λ r. ⌜ r ≡ bitsOf side ⌝ }
+{
+    let first = side.first;
+    let i = first.indices;
+    let bits = filter_bits(side.weighting, first.order, &i);
+    if side.filters == 1 {
+        return bits;
+    }
+    let second = side.second;
+    let j = second.indices;
+    bits + filter_bits(side.weighting, second.order, &j)
+}
+
+// One filter, in its band of the whole spectrum. It answers the states after it.
+fn filter_encoded(
+    band: Band,
+    q: [f32; 8],
+    order: u8,
+    states: [f32; 8],
+    lines: &mut [f32],
+) -> [f32; 8]
+    requires { ⌜ Fits band (length (now lines)) ⌝ }
+    requires { ⌜ order ≤ 8 ⌝ }
+    ensures { λ r. ⌜ r ≡ statesAfter q order states (inside band (now (lines .entry))) ⌝ }
+    ensures { λ _. ⌜ now (lines .exit) ≡ within band (linesEncoded q order states) (now (lines .entry)) ⌝ }
+{
+    if order == 0 {
+        return states;
+    }
+    let start = band.start;
+    let stop = band.stop;
+    band_encoded(q, order, states, &mut lines[start..stop])
+}
+
+// Both filters, each in its band, the states carried from the first to the second.
+fn two_encoded(row: Row, side: SideData, lines: &mut [f32])
+    requires { ⌜ SoundRow row (length (now lines)) ⌝ }
+    requires { ⌜ Reported side ⌝ }
+    ensures { λ _. ⌜ now (lines .exit) ≡ filteredBy side row (now (lines .entry)) ⌝ }
+{
+    let first = side.first;
+    let second = side.second;
+    let q = first.coefficients;
+    let states = filter_encoded(row.first, q, first.order, [0.0; 8], lines);
+    let p = second.coefficients;
+    filter_encoded(row.second, p, second.order, states, lines);
+}
+
+// A sound frame: the bits and the side data of its filters, and its bands filtered.
+fn row_encoded(row: Row, flag: bool, weighting: u8, lines: &mut [f32]) -> Encoded
+    requires { ⌜ SoundRow row (length (now lines)) ⌝ }
+    ensures { λ r. ⌜ encodeSays (r .answer) ≡ accepted (bitsOf (sideOf row (now (lines .entry)) flag weighting)) ⌝ }
+    ensures { λ r. ⌜ r .side ≡ sideOf row (now (lines .entry)) flag weighting ⌝ }
+    ensures { λ _. ⌜ now (lines .exit) ≡ rowEncoded row (now (lines .entry)) flag weighting ⌝ }
+{
+    let side = side_of(lines, row, flag, weighting);
+    let bits = side_bits(side);
+    two_encoded(row, side, lines);
+    Encoded {
+        answer: EncodeAnswer::Bits(bits),
+        side,
+    }
+}
+
+fn no_filter() -> Quantized
+    ensures { λ r. ⌜ r ≡ noFilter ⌝ }
+{
+    Quantized {
+        coefficients: [0.0; 8],
+        indices: [0; 8],
+        order: 0,
+    }
+}
+
+fn refused(why: Refusal) -> Encoded
+    ensures { λ r. ⌜ encodeSays (r .answer) ≡ says why ⌝ }
+    ensures { λ r. ⌜ r .side ≡ noSide ⌝ }
+{
+    let first = no_filter();
+    let second = no_filter();
+    let side = SideData {
+        weighting: 0,
+        filters: 0,
+        first,
+        second,
+    };
+    Encoded {
+        answer: EncodeAnswer::Refused(why),
+        side,
+    }
+}
+
+// Encodes a spectrum in place. Any numbers may be given: a frame that document 01 refuses is refused
+// by number, leaves every line as it was, and has no side data.
+pub fn encode(duration: u8, bandwidth: u8, nbits: u64, flag: bool, lines: &mut [f32]) -> Encoded
+    ensures { λ r. ⌜ encodeSays (r .answer) ≡ bitsIn (encodeVerdict duration bandwidth nbits flag (now (lines .entry))) ⌝ }
+    ensures { λ r. ⌜ r .side ≡ sideIn (encodeVerdict duration bandwidth nbits flag (now (lines .entry))) ⌝ }
+    ensures { λ _. ⌜ now (lines .exit) ≡ spectrumEncoded duration bandwidth nbits flag (now (lines .entry)) ⌝ }
+    ensures { λ r. ⌜ IfAccepted (encodeSays (r .answer)) (NearExact (rowOf (durationOf duration) bandwidth) (r .side) (now (lines .entry)) (now (lines .exit))) ⌝ }
+{
+    let frame = check_frame(duration, bandwidth, lines.len());
+    match frame {
+        FrameAnswer::Refused(why) => refused(why),
+        FrameAnswer::Sound(row) => {
+            let weighting = lpc_weighting(duration_of(duration), nbits);
+            row_encoded(row, flag, weighting, lines)
+        }
+    }
+}

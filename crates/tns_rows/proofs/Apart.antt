@@ -13,16 +13,16 @@ use borrow.Author.Tests.{leb-true, eqb-true}
 use lib.Ieee.{Float, nan}
 use lib.ListN.{length, getD, take, drop, length-append, length-drop, List·getD-append}
 use lib.Seq.{length-take-le, getD-append-add, getD-take, getD-drop, take-at, drop-at, ext-getD}
-use Rattle.tns_tables.specs.Rules.{every}
-use Rattle.tns_tables.proofs.Costs.{every-at}
-use Rattle.tns_tables.proofs.Outside.{and-left, and-right}
+use Rattle.tns_lists.specs.Every.{every}
+use Rattle.tns_lists.proofs.Every.{every-at}
+use Rattle.tns_lists.proofs.Every.{and-left, and-right}
 use Rattle.tns_rows.specs.Durations.{kept}
 use Rattle.tns_rows.specs.Bands.{rowsOf, bandFrom, rowOf, bandOf, lastStop, inside, within}
 use Rattle.tns_rows.specs.declared.duration.Duration.{Duration}
 use Rattle.tns_rows.specs.declared.duration.Duration.the-variants.{Ten, SevenPointFive}
 use Rattle.tns_rows.specs.declared.row.Band.{Band}
 use Rattle.tns_rows.specs.declared.row.Row.{Row}
-use Rattle.tns_rows.proofs.Frames.{Fits}
+use Rattle.tns_rows.proofs.Bands.{Fits}
 
 -- a place that is not in a band
 abbrev pub Outside : Band → ℕ → Type 0

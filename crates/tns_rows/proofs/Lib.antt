@@ -1,7 +1,4 @@
 -- The laws that belong to no one function.
-pub mod Frames
+pub mod Bands
 pub mod Apart
-pub mod InPlace
-pub mod Filled
-pub mod Orders
 pub mod Determined

@@ -5,7 +5,7 @@ use mathlib.Core.Bool.{Bool, true, false, _&&_, _||_}
 use mathlib.Core.List.{List, [], _∷_}
 use Prim.Native.Nat.{ℕ}
 use lib.Dec.{eqb, leb, ltb}
-use Rattle.tns_tables.specs.Rules.{every}
+use Rattle.tns_lists.specs.Every.{every}
 use Rattle.tns_rows.specs.Durations.{Kept, kept}
 use Rattle.tns_rows.specs.Bands.{tenMsRows, sevenPointFiveMsRows, bandFrom}
 use Rattle.tns_rows.specs.declared.duration.Duration.the-variants.{Ten, SevenPointFive}

@@ -1,19 +1,12 @@
--- Document 01, "Band rows": the bands of each duration and bandwidth with their cuts, checks 1 to 3 of a frame, and the lines of a band.
--- Assumes nothing.
-use mathlib.Core.Bool.{Bool, true, false, _||_}
+-- Document 01, "Band rows": the bands of each duration and bandwidth with their cuts, and the lines of a band. Assumes nothing.
 use mathlib.Core.List.{List, [], _∷_, _++_}
-use Prim.Native.Nat.{ℕ, zero, suc, _+_, _-_, _*_, max}
-use lib.Dec.{ltb}
-use lib.ListN.{getD, take, drop, length}
+use Prim.Native.Nat.{ℕ, zero, suc, _+_, _-_, max}
+use lib.ListN.{getD, take, drop}
 use lib.Ieee.{Float}
-use Rattle.tns_refusals.specs.Refusals.{Verdict, accepted, refused, refusedAt, check, says}
-use Rattle.tns_rows.specs.Durations.{kept, durationOf}
 use Rattle.tns_rows.specs.declared.duration.Duration.{Duration}
 use Rattle.tns_rows.specs.declared.duration.Duration.the-variants.{Ten, SevenPointFive}
 use Rattle.tns_rows.specs.declared.row.Band.{Band}
 use Rattle.tns_rows.specs.declared.row.Row.{Row}
-use Rattle.tns_rows.specs.declared.row.FrameAnswer.{FrameAnswer}
-use Rattle.tns_rows.specs.declared.row.FrameAnswer.the-variants.{Sound, Refused}
 
 -- A row for each bandwidth: start, two cuts and stop of the first band, and the same of the second, or zeros where the row has none.
 abbrev pub tenMsRows : List (List ℕ)
@@ -63,26 +56,6 @@ bandOf row (suc (suc filter)) = noBand
 abbrev pub lastStop : Row → ℕ
 lastStop row = max (row .first .stop) (row .second .stop)
 
--- 3: spectrum shorter than the row's last stop, or longer than the duration's longest
-abbrev pub lengthCheck : {A : Type 0} → Duration → ℕ → ℕ → Verdict A → Verdict A
-lengthCheck duration bandwidth lines next = check 3 (ltb lines (lastStop (rowOf duration bandwidth)) || ltb (kept duration .longest) lines) next
-
--- 1: duration code is not 0 or 1. 2: bandwidth over 4. 3: the length
-unfoldable pub frameChecks : {A : Type 0} → ℕ → ℕ → ℕ → Verdict A → Verdict A
-frameChecks duration bandwidth lines next =
-    check 1 (ltb 1 duration)
-    (check 2 (ltb 4 bandwidth)
-    (lengthCheck (durationOf duration) bandwidth lines
-    next))
-
--- what the shared check of 1 to 3 says: the row of a frame that it finds no fault with
-abbrev pub frameSays : FrameAnswer → Verdict Row
-frameSays (Sound row) = accepted row
-frameSays (Refused why) = says why
-
-unfoldable pub frameOf : ℕ → ℕ → ℕ → Verdict Row
-frameOf duration bandwidth lines = frameChecks duration bandwidth lines (accepted (rowOf (durationOf duration) bandwidth))
-
 -- the lines of a band
 abbrev pub inside : Band → List Float → List Float
 inside band lines = take (band .stop - band .start) (drop (band .start) lines)
@@ -90,12 +63,3 @@ inside band lines = take (band .stop - band .start) (drop (band .start) lines)
 -- the lines with something done to those of a band
 abbrev pub within : Band → (List Float → List Float) → List Float → List Float
 within band change lines = take (band .start) lines ++ (change (inside band lines) ++ drop (band .stop) lines)
-
--- the band that a caller asks for: none where the row has no such band or where refusal 1, 2 or 3 would be given
-abbrev pub askedIn : Verdict Row → ℕ → Band
-askedIn (accepted row) filter = bandOf row filter
-askedIn (refused number) filter = noBand
-askedIn (refusedAt number place found) filter = noBand
-
-abbrev pub askedBand : ℕ → ℕ → ℕ → ℕ → Band
-askedBand duration bandwidth filter lines = askedIn (frameOf duration bandwidth lines) filter

@@ -2,5 +2,3 @@
 pub mod Durations
 pub mod Bands
 pub mod BandRules
-pub mod Lines
-pub mod Marked

@@ -1,5 +1,5 @@
-// The layer that knows durations and band rows: where a frame's bands lie, which frames are refused,
-// and which part of a spectrum a band is. It knows no float arithmetic. Assumes nothing.
+// The layer that knows durations and band rows: what each duration keeps as its own, and where the
+// bands of a row lie. It knows no float arithmetic and refuses nothing. Assumes nothing.
 mod duration;
 mod row;
 
@@ -10,9 +10,5 @@ pub use duration::duration_of;
 pub use duration::longest;
 pub use duration::lpc_weighting;
 pub use row::Band;
-pub use row::FrameAnswer;
 pub use row::Row;
-pub use row::asked_band;
-pub use row::band_lines;
-pub use row::check_frame;
 pub use row::row_of;

@@ -1,29 +1,15 @@
--- What a lookup reads outside its table: 0. One law for the rows and one for the columns, over any table. Inside, the default is not read.
+-- What a lookup reads outside its table: 0. One law for the rows and one for the columns, over any table.
 -- Assumes nothing.
 use mathlib.Core.Path.{_≡_, refl, _∙_, ap}
 use mathlib.Core.Bool.{Bool, true, false, _&&_}
 use mathlib.Core.List.{List, [], _∷_}
 use Prim.Native.Nat.{ℕ, zero, suc, _≤_, _<_}
-use native.Mathlib.Nat.{le-of-suc-le-suc, not-suc-le-zero}
 use native.Mathlib.Omega.{arith}
 use lib.Dec.{eqb}
 use borrow.Author.Tests.{eqb-true}
 use lib.ListN.{length, getD, List·getD-eq-default}
+use Rattle.tns_lists.proofs.Every.{and-left, and-right}
 use Rattle.tns_tables.specs.Tables.{cell, wide}
-
-pub and-left : (a b : Bool) → a && b ≡ true → a ≡ true
-and-left true b e = refl
-and-left false b e = e
-
-pub and-right : (a b : Bool) → a && b ≡ true → b ≡ true
-and-right true b e = e
-and-right false b e = cc
-
--- inside a list the default is not read
-pub any-default : {A : Type 0} (xs : List A) (d e : A) (i : ℕ) → i < length xs → getD xs i d ≡ getD xs i e
-any-default [] d e i h = absurd (not-suc-le-zero h)
-any-default (x ∷ xs) d e zero h = refl
-any-default (x ∷ xs) d e (suc i) h = any-default xs d e i (le-of-suc-le-suc h)
 
 pub outside-rows : (table : List (List ℕ)) (row column : ℕ) → length table ≤ row → cell table row column ≡ 0
 outside-rows table row column h = ap (λ (r : List ℕ). getD r column 0) (List·getD-eq-default table [] h)

@@ -5,12 +5,8 @@ use mathlib.Core.Bool.{Bool, true, false, _&&_}
 use mathlib.Core.List.{List, [], _∷_}
 use Prim.Native.Nat.{ℕ, zero, suc, _+_, _*_, _≤_}
 use lib.Dec.{eqb, leb}
+use Rattle.tns_lists.specs.Every.{every}
 use Rattle.tns_tables.specs.Tables.{orderBits, orderFreq, orderCumfreq, coefBits, coefFreq, coefCumfreq}
-
--- a test that every member of a list passes
-abbrev pub every : {A : Type 0} → (A → Bool) → List A → Bool
-every test [] = true
-every test (x ∷ xs) = test x && every test xs
 
 unfoldable pub total : List ℕ → ℕ
 total [] = 0

@@ -2,7 +2,7 @@
 -- Assumes nothing.
 use mathlib.Core.Bool.{Bool, true, _&&_}
 use mathlib.Core.List.{List, [], _∷_}
-use Prim.Native.Nat.{ℕ, zero, suc}
+use Prim.Native.Nat.{ℕ, zero, suc, _+_}
 use lib.Dec.{eqb}
 use lib.ListN.{getD, length}
 
@@ -79,3 +79,15 @@ coefCumfreq =
     (0 ∷ 1 ∷ 2 ∷ 3 ∷ 4 ∷ 5 ∷ 6 ∷ 19 ∷ 300 ∷ 630 ∷ 1001 ∷ 1018 ∷ 1019 ∷ 1020 ∷ 1021 ∷ 1022 ∷ 1023 ∷ []) ∷
     (0 ∷ 1 ∷ 2 ∷ 3 ∷ 4 ∷ 5 ∷ 6 ∷ 11 ∷ 308 ∷ 309 ∷ 991 ∷ 1017 ∷ 1019 ∷ 1020 ∷ 1021 ∷ 1022 ∷ 1023 ∷ []) ∷
     []
+
+-- what an order costs, and what an index costs at its place, in 2048ths of a bit
+unfoldable pub orderCost : ℕ → ℕ → ℕ
+orderCost weighting order = ofOrder orderBits weighting order
+
+unfoldable pub indexCost : ℕ → ℕ → ℕ
+indexCost place index = cell coefBits place index
+
+-- the cost of some indices, the first of which stands at a place
+unfoldable pub indexCosts : ℕ → List ℕ → ℕ
+indexCosts place [] = 0
+indexCosts place (index ∷ indices) = indexCost place index + indexCosts (suc place) indices

@@ -5,7 +5,7 @@ use Prim.Native.Nat.{ℕ, _≤_}
 use borrow.Author.Needs.{needs}
 use Rattle.tns_refusals.specs.Refusals.{Verdict, accepted, placeIn, says}
 use Rattle.tns_refusals.specs.declared.Refusal.{Refusal}
-use Rattle.tns_tables.specs.Cost.{costOf, costSays}
+use Rattle.tns_cost.specs.Cost.{costOf, costSays}
 use Rattle.tns.specs.Answers.{told, noBits, itsBits}
 use Rattle.tns.specs.declared.Answer.{Answer}
 use Rattle.tns.proofs.Places.{cost-place}

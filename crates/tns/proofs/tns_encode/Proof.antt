@@ -10,8 +10,8 @@ use Rattle.tns_rows.specs.Durations.{durationOf}
 use Rattle.tns_rows.specs.Bands.{rowOf}
 use Rattle.tns_rows.specs.declared.row.Row.{Row}
 use Rattle.tns_encode.specs.Encoder.{encodeVerdict, bitsIn, sideIn, encodeSays}
-use Rattle.tns_encode.specs.Exact.{IfAccepted, NearExact}
-use Rattle.tns_encode.specs.declared.door.SideData.{SideData}
+use Rattle.tns_exact.specs.Exact.{IfAccepted, NearExact}
+use Rattle.tns_side.specs.declared.SideData.{SideData}
 use Rattle.tns.specs.Answers.{told, noBits, itsBits}
 use Rattle.tns.specs.declared.Answer.{Answer}
 use Rattle.tns.proofs.Places.{encode-place}
@@ -61,6 +61,9 @@ enum-known-answer-2 c = search needs
 record-of-requires : tie.Need-record-of-requires
 record-of-requires c κs = search needs
 
+coefficients-of-requires : tie.Need-coefficients-of-requires
+coefficients-of-requires c κs = search needs
+
 accepted-requires : tie.Need-accepted-requires
 accepted-requires c κs = search needs
 
@@ -86,8 +89,9 @@ same-length-2 c = search needs
 
 returns-2 : tie.Need-returns-2
 returns-2 c =
-    let recorded = c .before in
-    let answered = recorded .before .before .before .before in
+    let joined = c .before in
+    let recorded = joined .before in
+    let answered = recorded .before .before .before in
     let encoded = answered .before .before .before .before in
     let g = encoded .before .before .before .args in
     let v = encodeVerdict (g .duration) (g .bandwidth) (g .bits) (g .flag) (g .lines .now) in
@@ -95,7 +99,7 @@ returns-2 c =
     let door = encoded .encode .ensures in
     let writes = accepted-writes v (answered .answer2 .given .0 .0) (encoded .encode .result .side) (costs answered) (door .1 .0) (g .side .now) (g .coefficients .now) in (
       c .accepted .ensures ∙ ap (told itsBits) (costs answered),
-      (door .1 .1 .0, (recorded .record-of .ensures ∙ writes .0, (writes .1, near-of row v _ (encoded .encode .result .side) (g .lines .now) _ (door .0) (door .1 .0) (door .1 .1 .1)))),
+      (door .1 .1 .0, (recorded .record-of .ensures ∙ writes .0, (joined .coefficients-of .ensures ∙ writes .1, near-of row v _ (encoded .encode .result .side) (g .lines .now) _ (door .0) (door .1 .0) (door .1 .1 .1)))),
     )
 
 pub tns-encode-spec : {M : Type 1} → statement M
@@ -107,6 +111,7 @@ tns-encode-spec =
     refused-requires
     enum-known-answer-2
     record-of-requires
+    coefficients-of-requires
     accepted-requires
     same-length
     returns

@@ -1,0 +1,96 @@
+-- `tns_analysis::analyse` meets its contract: the calls, one after the other, are the definition.
+-- Assumes nothing.
+use mathlib.Core.Path.{_≡_, refl, sym, _∙_, ap}
+use mathlib.Core.Bool.{Bool, true, false, cond}
+use mathlib.Core.List.{List}
+use Prim.Native.Nat.{ℕ}
+use borrow.Author.Needs.{needs}
+use lib.Ieee.{Float}
+use lib.ListN.{replicate}
+use Rattle.tns_rows.specs.declared.row.Band.{Band}
+use Rattle.tns_rounding.specs.Floats.{f0}
+use Rattle.tns_lists.specs.Places.{at}
+use Rattle.tns_lags.specs.Autocorrelation.{autocorrelation}
+use Rattle.tns_recursion.specs.Recursion.{predicted}
+use Rattle.tns_recursion.specs.Gain.{gainRecord}
+use Rattle.tns_reflections.specs.Reflections.{damped, reflections}
+use Rattle.tns_analysis.specs.Analysis.{recordOf, reflectionsOf}
+use Rattle.tns_recursion.specs.declared.gain.FilterGain.{FilterGain}
+use Rattle.tns_recursion.specs.declared.recursion.Predictor.{Predictor}
+use Rattle.tns_analysis.proofs.analyse.Statement.{statement}
+use Rattle.tns_analysis.proofs.analyse.Tie as tie
+
+module _ (b : Band) (lines : List Float) (flag : Bool) (weighting : ℕ) where
+  record-is : (r : List Float) (p : Predictor) (g : FilterGain) → r ≡ autocorrelation b lines → p ≡ predicted r 8
+      → g ≡ gainRecord (at r 0) (p .error) flag weighting → g ≡ recordOf b lines flag weighting
+  unfolding recordOf
+  record-is r p g er ep eg = rw (eg, ep, er)
+
+  on-is : (p : Predictor) (g : FilterGain) (x : List Float) → g ≡ recordOf b lines flag weighting → p ≡ predicted (autocorrelation b lines) 8
+      → g .on ≡ true → x ≡ reflections (damped (p .row) (g .damping)) → x ≡ reflectionsOf b lines flag weighting
+  unfolding reflectionsOf
+  on-is p g x eg ep on ex = rw (← eg, on, ← ep) ex
+
+  off-is : (g : FilterGain) → g ≡ recordOf b lines flag weighting → g .on ≡ false → replicate 8 f0 ≡ reflectionsOf b lines flag weighting
+  unfolding reflectionsOf
+  off-is g eg off = rw (← eg, off)
+
+autocorrelated-requires : tie.Need-autocorrelated-requires
+autocorrelated-requires c κs = search needs
+
+predict-requires : tie.Need-predict-requires
+predict-requires c κs = search needs
+
+array-read-gain-record : tie.Need-array-read-gain-record
+array-read-gain-record c = search needs
+
+gain-record-requires : tie.Need-gain-record-requires
+gain-record-requires c κs = search needs
+
+damped-row-requires : tie.Need-damped-row-requires
+damped-row-requires c κs = search needs
+
+reflected-row-requires : tie.Need-reflected-row-requires
+reflected-row-requires c κs = search needs
+
+returns : tie.Need-returns
+returns c =
+    let damping = c .before in
+    let gained = damping .before .before .before in
+    let predicting = gained .before in
+    let lagged = predicting .before in
+    let g = lagged .before .before .args in
+    let xs = g .lines .now in
+    let p = predicting .predict .result in
+    let er = lagged .autocorrelated .ensures in
+    let ep = predicting .predict .ensures in
+    let eg = record-is (g .band) xs (g .flag) (g .weighting) (lagged .autocorrelated .result) p (gained .gain-record .result) er ep (gained .gain-record .ensures) in (
+      eg,
+      on-is (g .band) xs (g .flag) (g .weighting) p (gained .gain-record .result) (c .reflected-row .result) eg (ep ∙ ap (λ (r : List Float). predicted r 8) er) (damping .before .before .if1 .taken)
+          (c .reflected-row .ensures ∙ ap reflections (damping .damped-row .ensures)),
+    )
+
+returns-2 : tie.Need-returns-2
+returns-2 c =
+    let gained = c .before in
+    let predicting = gained .before in
+    let lagged = predicting .before in
+    let g = lagged .before .before .args in
+    let xs = g .lines .now in
+    let eg = record-is (g .band) xs (g .flag) (g .weighting) (lagged .autocorrelated .result) (predicting .predict .result) (gained .gain-record .result)
+    (lagged .autocorrelated .ensures) (predicting .predict .ensures) (gained .gain-record .ensures)
+    in
+    (eg, off-is (g .band) xs (g .flag) (g .weighting) (gained .gain-record .result) eg (c .if1 .left))
+
+pub analyse-spec : {M : Type 1} → statement M
+analyse-spec =
+    tie.close
+    (tie.spec
+    autocorrelated-requires
+    predict-requires
+    array-read-gain-record
+    gain-record-requires
+    damped-row-requires
+    reflected-row-requires
+    returns
+    returns-2)

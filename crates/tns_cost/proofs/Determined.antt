@@ -1,0 +1,39 @@
+-- Any two results that a contract allows for one input coincide: the law of `tns_refusals`, cited for each public function of this crate.
+-- Assumes nothing.
+use mathlib.Core.Path.{_≡_, refl, ap}
+use Rattle.tns_refusals.proofs.Determined.{Determined, coincide, itself, answerBack, refused-back}
+use Rattle.tns_cost.specs.Cost.{costSays}
+use Rattle.tns_cost.specs.Records.{Line, short, costs, recordSays}
+use Rattle.tns_cost.specs.declared.budget.CostAnswer.{CostAnswer}
+use Rattle.tns_cost.specs.declared.budget.CostAnswer.the-variants.{Bits, Refused}
+use Rattle.tns_cost.specs.declared.record.RecordAnswer.{RecordAnswer}
+use Rattle.tns_cost.specs.declared.record.RecordAnswer.the-variants.{Short, Whole}
+use Rattle.tns_cost.proofs.budget.filter_bits.Kinds as filter-bits-kinds
+use Rattle.tns_cost.proofs.budget.filter_bits.Reads as filter-bits-reads
+use Rattle.tns_cost.proofs.budget.cost.Kinds as cost-kinds
+use Rattle.tns_cost.proofs.budget.cost.Reads as cost-reads
+use Rattle.tns_cost.proofs.record.record_cost.Kinds as record-cost-kinds
+use Rattle.tns_cost.proofs.record.record_cost.Reads as record-cost-reads
+
+filter-bits : Determined 1 filter-bits-kinds.ps filter-bits-kinds.r filter-bits-reads.Post
+filter-bits κs a x y s t p q = itself (p .0) (q .0)
+
+-- ---- an answer that says the paper's numbers
+
+costBack : (answer : CostAnswer) → answerBack Bits Refused (costSays answer) ≡ answer
+costBack (Bits bits) = refl
+costBack (Refused why) = refused-back Bits Refused why
+
+abbrev recordOf : Line → RecordAnswer
+recordOf short = Short
+recordOf (costs verdict) = Whole (answerBack Bits Refused verdict)
+
+recordBack : (answer : RecordAnswer) → recordOf (recordSays answer) ≡ answer
+recordBack Short = refl
+recordBack (Whole answer) = ap Whole (costBack answer)
+
+cost : Determined 2 cost-kinds.ps cost-kinds.r cost-reads.Post
+cost κs a x y s t p q = coincide costSays (answerBack Bits Refused) costBack (p .0) (q .0)
+
+record-cost : Determined 1 record-cost-kinds.ps record-cost-kinds.r record-cost-reads.Post
+record-cost κs a x y s t p q = coincide recordSays recordOf recordBack p q

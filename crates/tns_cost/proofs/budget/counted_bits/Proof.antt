@@ -1,0 +1,92 @@
+-- `tns_cost::budget::counted_bits` meets its contract: none, one or two filters, each rounded up by itself.
+-- Assumes nothing.
+use mathlib.Core.Path.{_≡_, refl, sym, _∙_, ap}
+use mathlib.Core.List.{List}
+use Prim.Native.Nat.{ℕ, _+_}
+use native.Mathlib.Omega.{arith}
+use borrow.Author.Needs.{needs}
+use lib.ListN.{length, getD, take, drop}
+use Rattle.tns_cost.specs.Cost.{countedBits, filterBits}
+use Rattle.tns_refusals.proofs.Sides.{none-over}
+use Rattle.tns_cost.proofs.Costs.{filter-bits-at-most, one-counted, two-counted}
+use Rattle.tns_cost.proofs.budget.counted_bits.Statement.{statement}
+use Rattle.tns_cost.proofs.budget.counted_bits.Tie as tie
+
+returns : tie.Need-returns
+unfolding countedBits
+returns c = rw (c .if1 .taken)
+
+shared-slice-read-filter-bits : tie.Need-shared-slice-read-filter-bits
+shared-slice-read-filter-bits c = search needs
+
+sub-filter-bits : tie.Need-sub-filter-bits
+sub-filter-bits c = search needs
+
+part-filter-bits-start : tie.Need-part-filter-bits-start
+part-filter-bits-start c = search needs
+
+part-filter-bits-end : tie.Need-part-filter-bits-end
+part-filter-bits-end c = search needs
+
+filter-bits-requires : tie.Need-filter-bits-requires
+filter-bits-requires c κs = search needs
+
+returns-2 : tie.Need-returns-2
+returns-2 c =
+    let start = c .before .before .before .before .before .before .before in
+    let g = start .args in
+    c .before .filter-bits .ensures .0 ∙ sym (rw (c .if2 .taken) (one-counted (g .weighting) (g .orders .now) (g .indices .now) (start .pre .two-orders)))
+
+shared-slice-read-filter-bits-2 : tie.Need-shared-slice-read-filter-bits-2
+shared-slice-read-filter-bits-2 c = search needs
+
+sub-filter-bits-2 : tie.Need-sub-filter-bits-2
+sub-filter-bits-2 c = search needs
+
+part-filter-bits-start-2 : tie.Need-part-filter-bits-start-2
+part-filter-bits-start-2 c = search needs
+
+part-filter-bits-end-2 : tie.Need-part-filter-bits-end-2
+part-filter-bits-end-2 c = search needs
+
+filter-bits-requires-2 : tie.Need-filter-bits-requires-2
+filter-bits-requires-2 c κs = search needs
+
+add-result : tie.Need-add-result
+add-result c =
+    let first = c .before .before .before .before .filter-bits in
+    let start = c .before .before .before .before .before .before .before .before .before .before in
+    let os = start .args .orders .now in
+    let fine = none-over 8 0 os (start .pre .orders-at-most-8) in
+    omega (arith, first .ensures .1 (fine 0), c .filter-bits2 .ensures .1 (fine 1))
+
+returns-3 : tie.Need-returns-3
+returns-3 c =
+    let first = c .before .before .before .before .filter-bits in
+    let start = c .before .before .before .before .before .before .before .before .before .before in
+    let g = start .args in
+    let both : g .filters ≡ 2 = omega (arith, start .pre .count-at-most-2, c .before .before .before .if2 .left) in
+    let counted : countedBits (g .weighting) (g .filters) (g .orders .now) (g .indices .now)
+    ≡ filterBits (g .weighting) (getD (g .orders .now) 0 0) (take 8 (g .indices .now)) + filterBits (g .weighting) (getD (g .orders .now) 1 0) (take 8 (drop 8 (g .indices .now))) =
+    rw both (two-counted (g .weighting) (g .orders .now) (g .indices .now) (start .pre .two-orders))
+    in
+    omega (arith, first .ensures .0, c .filter-bits2 .ensures .0, counted)
+
+pub counted-bits-spec : {M : Type 1} → statement M
+counted-bits-spec =
+    tie.close
+    (tie.spec
+    returns
+    shared-slice-read-filter-bits
+    sub-filter-bits
+    part-filter-bits-start
+    part-filter-bits-end
+    filter-bits-requires
+    returns-2
+    shared-slice-read-filter-bits-2
+    sub-filter-bits-2
+    part-filter-bits-start-2
+    part-filter-bits-end-2
+    filter-bits-requires-2
+    add-result
+    returns-3)

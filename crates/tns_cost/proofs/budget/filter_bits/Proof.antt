@@ -1,0 +1,39 @@
+-- `tns_cost::budget::filter_bits` meets its contract. That nothing wraps follows from the bound on a cost at any order.
+-- Assumes nothing.
+use mathlib.Core.Path.{_≡_, refl, sym, _∙_, ap}
+use native.Mathlib.Omega.{arith}
+use borrow.Author.Needs.{needs}
+use Rattle.tns_cost.specs.Cost.{filterCost, filterBits}
+use Rattle.tns_cost.proofs.Costs.{filter-cost-affordable, filter-bits-at-most}
+use Rattle.tns_cost.proofs.budget.filter_bits.Statement.{statement}
+use Rattle.tns_cost.proofs.budget.filter_bits.Tie as tie
+
+filter-cost-requires : tie.Need-filter-cost-requires
+filter-cost-requires c κs = search needs
+
+add-result : tie.Need-add-result
+add-result c =
+    let g = c .before .before .args in
+    omega (arith, c .filter-cost .ensures, filter-cost-affordable (g .weighting) (g .order) (g .indices .now))
+
+cast-result : tie.Need-cast-result
+cast-result c =
+    let g = c .before .before .args in
+    omega (arith, c .filter-cost .ensures, filter-cost-affordable (g .weighting) (g .order) (g .indices .now))
+
+add-result-2 : tie.Need-add-result-2
+add-result-2 c =
+    let g = c .before .before .args in
+    omega (arith, c .filter-cost .ensures, filter-cost-affordable (g .weighting) (g .order) (g .indices .now))
+
+returns : tie.Need-returns
+unfolding filterBits
+returns c =
+    let g = c .before .before .args in (
+      omega (arith, c .filter-cost .ensures),
+      λ h. omega (arith, c .filter-cost .ensures, filter-bits-at-most (g .weighting) (g .order) (g .indices .now) h),
+    )
+
+pub filter-bits-spec : {M : Type 1} → statement M
+filter-bits-spec =
+    tie.close (tie.spec filter-cost-requires add-result cast-result add-result-2 returns)

@@ -1,0 +1,73 @@
+-- `tns_cost::record::record_cost` meets its contract: too few bytes, or the cost of their parts.
+-- Assumes nothing.
+use mathlib.Core.Path.{_≡_, sym, _∙_, ap}
+use mathlib.Core.List.{List}
+use Prim.Native.Nat.{ℕ, _<_, _≤_}
+use native.Mathlib.Omega.{arith}
+use borrow.Author.Needs.{needs}
+use borrow.Author.Tests.{lt-ltb, le-ltb}
+use lib.ListN.{length, getD, take, drop}
+use Rattle.tns_cost.specs.Cost.{costOf}
+use Rattle.tns_cost.specs.Records.{short, costs, lineOf}
+use Rattle.tns_cost.proofs.record.record_cost.Statement.{statement}
+use Rattle.tns_cost.proofs.record.record_cost.Tie as tie
+
+too-few : (bytes : List ℕ) → length bytes < 20 → short ≡ lineOf bytes
+unfolding lineOf
+too-few bytes h = simp (lt-ltb _ _ h)
+
+enough : (bytes : List ℕ) → 20 ≤ length bytes
+    → costs (costOf (getD bytes 0 0) (getD bytes 1 0) (take 2 (drop 2 bytes)) (take 16 (drop 4 bytes))) ≡ lineOf bytes
+unfolding lineOf
+enough bytes h = simp (le-ltb _ _ h)
+
+returns : tie.Need-returns
+returns c = too-few (c .before .before .args .bytes .now) (c .if1 .taken)
+
+shared-slice-read-cost : tie.Need-shared-slice-read-cost
+shared-slice-read-cost c = search needs
+
+shared-slice-read-cost-2 : tie.Need-shared-slice-read-cost-2
+shared-slice-read-cost-2 c = search needs
+
+sub-cost : tie.Need-sub-cost
+sub-cost c = search needs
+
+part-cost-start : tie.Need-part-cost-start
+part-cost-start c = search needs
+
+part-cost-end : tie.Need-part-cost-end
+part-cost-end c = search needs
+
+sub-cost-2 : tie.Need-sub-cost-2
+sub-cost-2 c = search needs
+
+part-cost-start-2 : tie.Need-part-cost-start-2
+part-cost-start-2 c = search needs
+
+part-cost-end-2 : tie.Need-part-cost-end-2
+part-cost-end-2 c = search needs
+
+cost-requires : tie.Need-cost-requires
+cost-requires c κs = search needs
+
+returns-2 : tie.Need-returns-2
+returns-2 c =
+    let else = c .before .before .before .before .before in
+    ap costs (c .cost .ensures .0) ∙ enough (else .before .before .args .bytes .now) (else .if1 .left)
+
+pub record-cost-spec : {M : Type 1} → statement M
+record-cost-spec =
+    tie.close
+    (tie.spec
+    returns
+    shared-slice-read-cost
+    shared-slice-read-cost-2
+    sub-cost
+    part-cost-start
+    part-cost-end
+    sub-cost-2
+    part-cost-start-2
+    part-cost-end-2
+    cost-requires
+    returns-2)

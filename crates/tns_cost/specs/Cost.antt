@@ -1,0 +1,42 @@
+-- Document 01, "Cost": what the side data of a frame costs in bits, and the answer of the cost call.
+-- Assumes nothing.
+use mathlib.Core.List.{List, [], _∷_}
+use Prim.Native.Nat.{ℕ, zero, suc, _+_, _/_}
+use lib.Dec.{ltb}
+use lib.ListN.{take, drop}
+use Rattle.tns_tables.specs.Tables.{orderCost, indexCosts}
+use Rattle.tns_refusals.specs.Refusals.{Verdict, accepted, refused, check, sideChecks, says}
+use Rattle.tns_cost.specs.declared.budget.CostAnswer.{CostAnswer}
+use Rattle.tns_cost.specs.declared.budget.CostAnswer.the-variants.{Bits, Refused}
+
+-- order cost + cost of indices below the order, in 2048ths
+unfoldable pub filterCost : ℕ → ℕ → List ℕ → ℕ
+filterCost weighting order indices = orderCost weighting order + indexCosts 0 (take order indices)
+
+-- one bit plus that cost, rounded up
+unfoldable pub filterBits : ℕ → ℕ → List ℕ → ℕ
+filterBits weighting order indices = 1 + (filterCost weighting order indices + 2047) / 2048
+
+-- Per counted filter. Each has one of the orders and the next eight of the indices.
+unfoldable pub countedBits : ℕ → ℕ → List ℕ → List ℕ → ℕ
+countedBits weighting zero orders indices = 0
+countedBits weighting (suc filters) [] indices = 0
+countedBits weighting (suc filters) (order ∷ orders) indices =
+    filterBits weighting order (take 8 indices) + countedBits weighting filters orders (drop 8 indices)
+
+-- the cost call: the checks in number order, 8 being a weighting over 1, and then the bits
+unfoldable pub costOf : ℕ → ℕ → List ℕ → List ℕ → Verdict ℕ
+costOf weighting filters orders indices =
+    sideChecks filters orders indices
+    (check 8 (ltb 1 weighting)
+    (accepted (countedBits weighting filters orders indices)))
+
+-- what an answer of the cost call says
+abbrev pub costSays : CostAnswer → Verdict ℕ
+costSays (Bits bits) = accepted bits
+costSays (Refused why) = says why
+
+-- the bits that an answer holds, and none where it is a refusal
+abbrev pub bitsIn : CostAnswer → ℕ
+bitsIn (Bits bits) = bits
+bitsIn (Refused why) = 0

@@ -1,0 +1,73 @@
+-- `tns_decode::coefficients` meets its contract. The invariant: the places passed hold the coefficients of their indices.
+-- Assumes nothing.
+use mathlib.Core.Path.{_≡_, refl, sym, _∙_, ap}
+use mathlib.Core.List.{List, map}
+use Prim.Native.Nat.{ℕ, _+_, _-_, _<_, _≤_}
+use native.Mathlib.Omega.{arith}
+use borrow.Author.Needs.{needs}
+use lib.Ieee.{Float}
+use lib.ListN.{length, take, length-set}
+use Rattle.tns_lists.proofs.Filled.{mapped-more, mapped-all}
+use Rattle.tns_decode.specs.Decoder.{decoderCoefficient}
+use Rattle.tns_decode.proofs.coefficients.Statement.{statement}
+use Rattle.tns_decode.proofs.coefficients.Tie as tie
+
+abbrev Inv-loop : tie.InvT-loop
+Inv-loop indices q₀ k₀ q k = (k ≤ 8) × (length q ≡ 8) × (take k q ≡ map decoderCoefficient (take k indices))
+
+abbrev μ-loop : tie.MeasureT-loop
+μ-loop indices q₀ k₀ q k = 8 - k
+
+loop-holds : tie.Need-loop-holds Inv-loop μ-loop
+loop-holds c = (omega arith, refl, refl)
+
+shared-slice-read-decoder-coefficient :
+    tie.Need-shared-slice-read-decoder-coefficient Inv-loop μ-loop
+shared-slice-read-decoder-coefficient c = omega (arith, c .before .before .before .before .pre)
+
+decoder-coefficient-requires : tie.Need-decoder-coefficient-requires Inv-loop μ-loop
+decoder-coefficient-requires c κs = search needs
+
+mul-q : tie.Need-mul-q Inv-loop μ-loop
+mul-q c = omega arith
+
+array-write-q : tie.Need-array-write-q Inv-loop μ-loop
+array-write-q c = omega arith
+
+add-k : tie.Need-add-k Inv-loop μ-loop
+add-k c = omega arith
+
+loop-less : tie.Need-loop-less Inv-loop μ-loop
+loop-less c = omega arith
+
+loop-again : tie.Need-loop-again Inv-loop μ-loop
+loop-again c =
+    let l = c .before .before .before .loop in
+    let is = c .before .before .before .before .before .args .indices .now in (
+      omega arith,
+      simp length-set (l .inv .1),
+      mapped-more decoderCoefficient 0 (l .q) is (l .k) (c .decoder-coefficient .result) (omega arith) (omega (arith, c .before .before .before .before .before .pre)) (c .decoder-coefficient .ensures) (l .inv .2),
+    )
+
+returns : tie.Need-returns Inv-loop μ-loop
+returns c =
+    let l = c .before .loop in
+    let is = c .before .before .before .args .indices .now in
+    let done : l .k ≡ 8 = omega arith in
+    mapped-all decoderCoefficient 0 (l .q) is (l .k) (omega arith) (omega (arith, c .before .before .before .pre)) (l .inv .2)
+
+pub coefficients-spec : {M : Type 1} → statement M
+coefficients-spec =
+    tie.close
+    (tie.spec
+    Inv-loop
+    μ-loop
+    loop-holds
+    shared-slice-read-decoder-coefficient
+    decoder-coefficient-requires
+    mul-q
+    array-write-q
+    add-k
+    loop-less
+    loop-again
+    returns)

@@ -1,0 +1,108 @@
+-- `tns_decode::decode` meets its contract: a frame that is refused, side data that are refused, or the decoded spectrum.
+-- Assumes nothing.
+use mathlib.Core.Path.{_≡_, refl, sym, _∙_, ap}
+use mathlib.Core.List.{List}
+use Prim.Native.Nat.{ℕ}
+use borrow.Author.Needs.{needs}
+use lib.Ieee.{Float}
+use lib.ListN.{length}
+use Rattle.tns_refusals.specs.Refusals.{Verdict, accepted, noFault, says, sideChecks, sideSays}
+use Rattle.tns_refusals.proofs.Sides.{sound-side}
+use Rattle.tns_rows.specs.Durations.{durationOf}
+use Rattle.tns_frames.specs.Frames.{frameOf, frameSays}
+use Rattle.tns_rows.specs.Bands.{rowOf}
+use Rattle.tns_rows.specs.declared.row.Row.{Row}
+use Rattle.tns_frames.proofs.Frames.{sound-row}
+use Rattle.tns_decode.specs.Decoder.{decodeChecks, rowDecoded}
+use Rattle.tns_decode.proofs.Checks.{frame-refused, frame-passed, refused-spectrum, accepted-spectrum}
+use Rattle.tns_decode.proofs.decode.Statement.{statement}
+use Rattle.tns_decode.proofs.decode.Tie as tie
+
+-- the frame passed, with its row
+passed : (c : tie.After-frame2) →
+    let g = c .before .before .before .before .before .before .args in
+    accepted (c .frame2 .given .0 .0) ≡ frameOf (g .duration) (g .bandwidth) (length (g .lines .now))
+passed c = sym (ap frameSays (c .frame2 .given .1)) ∙ c .before .before .check-frame .ensures
+
+-- the side data passed too
+side-passed : (c : tie.After-enum-told) →
+    let g = c .before .before .before .before .before .before .before .before .before .before .args in
+    noFault ≡ sideChecks (g .filters) (g .orders .now) (g .indices .now) noFault
+side-passed c = sym (ap sideSays (c .enum-told .given .1)) ∙ c .before .before .check-side .ensures
+
+check-frame-requires : tie.Need-check-frame-requires
+check-frame-requires c κs = search needs
+
+enum-known-frame : tie.Need-enum-known-frame
+enum-known-frame c = search needs
+
+enum-known-frame-2 : tie.Need-enum-known-frame-2
+enum-known-frame-2 c = search needs
+
+check-side-requires : tie.Need-check-side-requires
+check-side-requires c κs = search needs
+
+enum-known-side : tie.Need-enum-known-side
+enum-known-side c = search needs
+
+enum-told : tie.Need-enum-told
+enum-told c = search needs
+
+acting-decoded-requires : tie.Need-acting-decoded-requires
+acting-decoded-requires c κs =
+    let told = c .before in
+    let frame = told .before .before .before .before in
+    let g = frame .before .before .before .before .before .before .args in (
+      sound-row (g .duration) (g .bandwidth) (length (g .lines .now)) (frame .frame2 .given .0 .0) (sym (passed frame)),
+      sound-side (g .filters) (g .orders .now) (g .indices .now) (sym (side-passed told)),
+    )
+
+returns : tie.Need-returns
+returns c =
+    let g = c .before .before .before .before .before .before .before .args in
+    let why = c .before .frame .given .0 .0 in
+    let e = frame-refused (g .duration) (g .bandwidth) (g .filters) (g .orders .now) (g .indices .now) (length (g .lines .now)) why
+    (sym (ap frameSays (c .before .frame .given .1)) ∙ c .before .before .before .check-frame .ensures)
+    in
+    (e, refused-spectrum (g .duration) (g .bandwidth) (g .filters) (g .orders .now) (g .indices .now) (g .lines .now) why e)
+
+returns-2 : tie.Need-returns-2
+returns-2 c =
+    let frame = c .before .before .before .before .before in
+    let g = frame .before .before .before .before .before .before .args in
+    let why = c .before .side .given .0 .0 in
+    let rest = frame-passed (g .duration) (g .bandwidth) (g .filters) (g .orders .now) (g .indices .now) (length (g .lines .now)) (frame .frame2 .given .0 .0) (passed frame) in
+    let e = sym (ap sideSays (c .before .side .given .1)) ∙ c .before .before .before .check-side .ensures ∙ sym (rest .1) in
+    (e, refused-spectrum (g .duration) (g .bandwidth) (g .filters) (g .orders .now) (g .indices .now) (g .lines .now) why e)
+
+same-length : tie.Need-same-length
+same-length c = search needs
+
+returns-3 : tie.Need-returns-3
+returns-3 c =
+    let told = c .before .before .before .before in
+    let frame = told .before .before .before .before in
+    let g = frame .before .before .before .before .before .before .args in
+    let rest = frame-passed (g .duration) (g .bandwidth) (g .filters) (g .orders .now) (g .indices .now) (length (g .lines .now)) (frame .frame2 .given .0 .0) (passed frame) in
+    let e = side-passed told ∙ sym (rest .1) in (
+      e,
+      c .before .before .acting-decoded .ensures
+          ∙ ap (λ (row : Row). rowDecoded row (g .filters) (g .orders .now) (g .indices .now) (g .lines .now)) (rest .0)
+          ∙ accepted-spectrum (g .duration) (g .bandwidth) (g .filters) (g .orders .now) (g .indices .now) (g .lines .now) e,
+    )
+
+pub decode-spec : {M : Type 1} → statement M
+decode-spec =
+    tie.close
+    (tie.spec
+    check-frame-requires
+    enum-known-frame
+    enum-known-frame-2
+    check-side-requires
+    enum-known-side
+    enum-told
+    acting-decoded-requires
+    returns
+    returns-2
+    same-length
+    returns-3)

@@ -1,0 +1,27 @@
+-- `tns_decode::decoder_coefficient` meets its contract.
+-- Assumes nothing.
+use mathlib.Core.Path.{_≡_, refl, sym, _∙_}
+use Prim.Native.Nat.{ℕ, zero, suc}
+use borrow.Author.Needs.{needs}
+use Rattle.tns_index.specs.Quantizer.{coefficientOf}
+use Rattle.tns_decode.specs.Decoder.{decoderCoefficient}
+use Rattle.tns_decode.proofs.decoder_coefficient.Statement.{statement}
+use Rattle.tns_decode.proofs.decoder_coefficient.Tie as tie
+
+not-zero : (index : ℕ) → (index ≡ 0 → ⊥) → coefficientOf index ≡ decoderCoefficient index
+unfolding decoderCoefficient
+not-zero zero h = absurd (h refl)
+not-zero (suc i) h = refl
+
+returns : tie.Need-returns
+unfolding decoderCoefficient
+returns c = rw (c .if1 .taken)
+
+coefficient-of-requires : tie.Need-coefficient-of-requires
+coefficient-of-requires c κs = search needs
+
+returns-2 : tie.Need-returns-2
+returns-2 c = c .coefficient-of .ensures ∙ not-zero (c .before .before .args .index) (c .before .if1 .left)
+
+pub decoder-coefficient-spec : {M : Type 1} → statement M
+decoder-coefficient-spec = tie.close (tie.spec returns coefficient-of-requires returns-2)

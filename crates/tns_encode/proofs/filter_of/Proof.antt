@@ -1,0 +1,49 @@
+-- `tns_encode::filter_of` meets its contract. A filter that is off has eight zeros, whose indices are eights.
+-- Assumes nothing.
+use mathlib.Core.Path.{_≡_, refl, sym, _∙_, ap}
+use mathlib.Core.Bool.{Bool, true, false, cond}
+use mathlib.Core.List.{List}
+use Prim.Native.Nat.{ℕ}
+use borrow.Author.Needs.{needs}
+use lib.Ieee.{Float}
+use lib.ListN.{replicate}
+use Rattle.tns_rows.specs.declared.row.Band.{Band}
+use Rattle.tns_index.specs.Quantizer.{indexOf, coefficientOf, orderOf, orderFrom, notAbove, plusZero}
+use Rattle.tns_analysis.specs.Analysis.{recordOf, reflectionsOf}
+use Rattle.tns_recursion.specs.declared.gain.FilterGain.{FilterGain}
+use Rattle.tns_side.specs.Quantized.{quantizedOf, absent}
+use Rattle.tns_encode.specs.Encoder.{filterOf}
+use Rattle.tns_encode.proofs.filter_of.Statement.{statement}
+use Rattle.tns_encode.proofs.filter_of.Tie as tie
+
+zeros-absent : absent ≡ quantizedOf (replicate 8 plusZero)
+unfolding absent quantizedOf indexOf coefficientOf orderOf orderFrom notAbove lib.Ieee.le lib.Ieee.ofBits
+zeros-absent = refl
+
+off-is : (b : Band) (lines : List Float) (flag : Bool) (weighting : ℕ) (g : FilterGain) → g ≡ recordOf b lines flag weighting → g .on ≡ false
+    → absent ≡ quantizedOf (reflectionsOf b lines flag weighting)
+unfolding reflectionsOf
+off-is b lines flag weighting g eg off = rw (← eg, off) zeros-absent
+
+analyse-requires : tie.Need-analyse-requires
+analyse-requires c κs = search needs
+
+quantize-all-requires : tie.Need-quantize-all-requires
+quantize-all-requires c κs = search needs
+
+returns : tie.Need-returns
+unfolding filterOf
+returns c = c .quantize-all .ensures ∙ ap quantizedOf (c .before .before .before .analyse .ensures .1)
+
+none-requires : tie.Need-none-requires
+none-requires c κs = search needs
+
+returns-2 : tie.Need-returns-2
+unfolding filterOf
+returns-2 c =
+    let found = c .before .before in
+    let g = found .before .before .args in
+    c .none .ensures ∙ off-is (g .band) (g .lines .now) (g .flag) (g .weighting) (found .analyse .result .gain) (found .analyse .ensures .0) (c .before .if1 .left)
+
+pub filter-of-spec : {M : Type 1} → statement M
+filter-of-spec = tie.close (tie.spec analyse-requires quantize-all-requires returns none-requires returns-2)

@@ -1,0 +1,42 @@
+-- `tns_encode::second_of` meets its contract: no filter where the row has no second band.
+-- Assumes nothing.
+use mathlib.Core.Path.{_≡_, refl, sym, _∙_, ap}
+use mathlib.Core.Bool.{Bool}
+use mathlib.Core.List.{List}
+use Prim.Native.Nat.{ℕ}
+use borrow.Author.Needs.{needs}
+use borrow.Author.Tests.{eq-eqb, ne-eqb}
+use lib.Ieee.{Float}
+use Rattle.tns_rows.specs.declared.row.Row.{Row}
+use Rattle.tns_side.specs.Quantized.{absent}
+use Rattle.tns_encode.specs.Encoder.{filterOf, secondOf}
+use Rattle.tns_encode.proofs.second_of.Statement.{statement}
+use Rattle.tns_encode.proofs.second_of.Tie as tie
+
+module _ (row : Row) (lines : List Float) (flag : Bool) (weighting : ℕ) where
+  no-second : row .second .stop ≡ 0 → absent ≡ secondOf row lines flag weighting
+  unfolding secondOf
+  no-second e = rw (eq-eqb (row .second .stop) 0 e)
+
+  has-second : (row .second .stop ≡ 0 → ⊥) → filterOf (row .second) lines flag weighting ≡ secondOf row lines flag weighting
+  unfolding secondOf
+  has-second h = rw (ne-eqb (row .second .stop) 0 h)
+
+none-requires : tie.Need-none-requires
+none-requires c κs = search needs
+
+returns : tie.Need-returns
+returns c =
+    let g = c .before .before .before .before .args in
+    c .none .ensures ∙ no-second (g .row) (g .lines .now) (g .flag) (g .weighting) (c .before .if1 .taken)
+
+filter-of-requires : tie.Need-filter-of-requires
+filter-of-requires c κs = search needs
+
+returns-2 : tie.Need-returns-2
+returns-2 c =
+    let g = c .before .before .before .before .args in
+    c .filter-of .ensures ∙ has-second (g .row) (g .lines .now) (g .flag) (g .weighting) (c .before .if1 .left)
+
+pub second-of-spec : {M : Type 1} → statement M
+second-of-spec = tie.close (tie.spec none-requires returns filter-of-requires returns-2)

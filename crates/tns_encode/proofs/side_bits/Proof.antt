@@ -1,0 +1,79 @@
+-- `tns_encode::side_bits` meets its contract: each filter is rounded up by itself.
+-- Assumes nothing.
+use mathlib.Core.Path.{_≡_, refl, sym, _∙_, ap}
+use mathlib.Core.List.{List, [], _∷_, _++_}
+use Prim.Native.Nat.{ℕ, _+_, _≤_}
+use native.Mathlib.Omega.{arith}
+use borrow.Author.Needs.{needs}
+use lib.ListN.{length, take, drop}
+use lib.Seq.{take-at, drop-at, take-all}
+use Rattle.tns_cost.specs.Cost.{countedBits, filterBits}
+use Rattle.tns_cost.proofs.Costs.{one-counted, two-counted}
+use Rattle.tns_side.specs.Side.{bitsOf}
+use Rattle.tns_side.specs.declared.SideData.{SideData}
+use Rattle.tns_encode.specs.Steps.{Reported}
+use Rattle.tns_encode.proofs.side_bits.Statement.{statement}
+use Rattle.tns_encode.proofs.side_bits.Tie as tie
+
+only-two : (n : ℕ) → 1 ≤ n → n ≤ 2 → (n ≡ 1 → ⊥) → n ≡ 2
+only-two n h k d = omega arith
+
+module _ (s : SideData) (p : Reported s) where
+  one-filter : s .filters ≡ 1 → filterBits (s .weighting) (s .first .order) (s .first .indices) ≡ bitsOf s
+  one-filter e = rw e (sym (one-counted (s .weighting) _ _ refl ∙ rw (take-at (s .first .indices) (s .second .indices) 8 (p .first .eight-indices))))
+
+  two-filters : (s .filters ≡ 1 → ⊥)
+      → filterBits (s .weighting) (s .first .order) (s .first .indices) + filterBits (s .weighting) (s .second .order) (s .second .indices) ≡ bitsOf s
+  two-filters d =
+      let is = s .first .indices in
+      let js = s .second .indices in
+      let e = only-two (s .filters) (p .one) (p .two) d in
+      let all : take 8 js ≡ js = take-all 8 js (omega (arith, p .second .eight-indices)) in
+      rw e (sym (two-counted (s .weighting) _ _ refl ∙ rw (take-at is js 8 (p .first .eight-indices), drop-at is js 8 (p .first .eight-indices), all)))
+
+slice-aggregate-filter-bits : tie.Need-slice-aggregate-filter-bits
+slice-aggregate-filter-bits c = search needs
+
+filter-bits-requires : tie.Need-filter-bits-requires
+filter-bits-requires c κs = search needs
+
+returns : tie.Need-returns
+returns c =
+    let first = c .before .before in
+    let start = first .before .before .before .before in
+    first .filter-bits .ensures .0 ∙ one-filter (start .args .side) (start .pre) (c .if1 .taken)
+
+slice-aggregate-filter-bits-2 : tie.Need-slice-aggregate-filter-bits-2
+slice-aggregate-filter-bits-2 c = search needs
+
+filter-bits-requires-2 : tie.Need-filter-bits-requires-2
+filter-bits-requires-2 c κs = search needs
+
+add-result : tie.Need-add-result
+add-result c =
+    let first = c .before .before .before .before .before .before in
+    let start = first .before .before .before .before in
+    omega (arith, first .filter-bits .ensures .1 (start .pre .first .order-at-most-8), c .filter-bits2 .ensures .1 (start .pre .second .order-at-most-8))
+
+returns-2 : tie.Need-returns-2
+returns-2 c =
+    let first = c .before .before .before .before .before .before in
+    let start = first .before .before .before .before in
+    omega (
+      arith,
+      first .filter-bits .ensures .0,
+      c .filter-bits2 .ensures .0,
+      two-filters (start .args .side) (start .pre) (c .before .before .before .before .if1 .left),
+    )
+
+pub side-bits-spec : {M : Type 1} → statement M
+side-bits-spec =
+    tie.close
+    (tie.spec
+    slice-aggregate-filter-bits
+    filter-bits-requires
+    returns
+    slice-aggregate-filter-bits-2
+    filter-bits-requires-2
+    add-result
+    returns-2)

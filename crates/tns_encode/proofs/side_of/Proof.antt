@@ -1,0 +1,40 @@
+-- `tns_encode::side_of` meets its contract: the parts are the definition's.
+-- Assumes nothing.
+use mathlib.Core.Path.{_≡_, refl}
+use mathlib.Core.Bool.{Bool}
+use mathlib.Core.List.{List}
+use Prim.Native.Nat.{ℕ}
+use borrow.Author.Needs.{needs}
+use lib.Ieee.{Float}
+use Rattle.tns_rows.specs.declared.row.Row.{Row}
+use Rattle.tns_side.specs.declared.Quantized.{Quantized}
+use Rattle.tns_side.specs.declared.SideData.{SideData}
+use Rattle.tns_encode.specs.Encoder.{countOf, filterOf, secondOf, sideOf}
+use Rattle.tns_encode.proofs.side_of.Statement.{statement}
+use Rattle.tns_encode.proofs.side_of.Tie as tie
+
+parts : (row : Row) (lines : List Float) (flag : Bool) (weighting filters : ℕ) (a b : Quantized) → a ≡ filterOf (row .first) lines flag weighting
+    → b ≡ secondOf row lines flag weighting → filters ≡ countOf row
+    → _≡_ {A = SideData} (record { weighting = weighting; filters = filters; first = a; second = b }) (sideOf row lines flag weighting)
+unfolding sideOf
+parts row lines flag weighting filters a b ea eb ef = rw (ea, eb, ef)
+
+filter-of-requires : tie.Need-filter-of-requires
+filter-of-requires c κs = search needs
+
+second-of-requires : tie.Need-second-of-requires
+second-of-requires c κs = search needs
+
+count-of-requires : tie.Need-count-of-requires
+count-of-requires c κs = search needs
+
+returns : tie.Need-returns
+returns c =
+    let second = c .before in
+    let first = second .before in
+    let g = first .before .before .args in
+    parts (g .row) (g .lines .now) (g .flag) (g .weighting) (c .count-of .result) (first .filter-of .result) (second .second-of .result)
+    (first .filter-of .ensures) (second .second-of .ensures) (c .count-of .ensures)
+
+pub side-of-spec : {M : Type 1} → statement M
+side-of-spec = tie.close (tie.spec filter-of-requires second-of-requires count-of-requires returns)

@@ -1,0 +1,3 @@
+-- The laws that hold the encoder's lattice to the exact one.
+pub mod NearLattice
+pub mod NearFrames

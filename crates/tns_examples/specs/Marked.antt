@@ -1,0 +1,62 @@
+-- Document 01's table of marked cases, M1 to M14: one list, and one statement that the checker computes of the definitions.
+-- Assumes nothing.
+use mathlib.Core.Path.{_≡_, refl}
+use mathlib.Core.Bool.{Bool, true, false}
+use mathlib.Core.List.{List, [], _∷_, _++_}
+use Prim.Native.Nat.{ℕ, _-_}
+use lib.Dec.{ltb, eqb}
+use lib.ListN.{length, replicate}
+use lib.Ieee.{Float, nan, neg, le, ofBits, binary32}
+use Rattle.tns_lists.specs.Every.{every}
+use Rattle.tns_tables.specs.Tables.{ofOrder, orderCost, indexCost, indexCosts}
+use Rattle.tns_index.specs.Quantizer.{indexOf, notAbove, one}
+use Rattle.tns_refusals.specs.Refusals.{Verdict, accepted, refused, refusedAt, sideChecks, lowestOver}
+use Rattle.tns_cost.specs.Cost.{costOf, countedBits, filterBits, filterCost}
+use Rattle.tns_rows.specs.Durations.{kept, weightingOf}
+use Rattle.tns_rows.specs.declared.duration.Duration.{Duration}
+use Rattle.tns_rows.specs.declared.duration.Duration.the-variants.{Ten, SevenPointFive}
+
+-- an input and the result that the table gives for it
+pub data Case : Type 0 where
+  -- weighting, filter count, orders, the indices that are not 8 from the first on; bits
+  costs : ℕ → ℕ → List ℕ → List ℕ → ℕ → Case
+  -- duration, bit number; weighting
+  weighs : Duration → ℕ → ℕ → Case
+  -- coefficient; index
+  quantizes : Float → ℕ → Case
+
+unfoldable pub marked : List Case
+marked =
+    costs 0 1 (0 ∷ 0 ∷ []) [] 1 ∷  -- M1: one filter, order 0
+    costs 0 1 (1 ∷ 0 ∷ []) (9 ∷ []) 13 ∷  -- M2
+    costs 1 1 (1 ∷ 0 ∷ []) (0 ∷ []) 18 ∷  -- M3
+    costs 0 1 (2 ∷ 0 ∷ []) (7 ∷ 9 ∷ []) 14 ∷  -- M4
+    costs 1 1 (8 ∷ 0 ∷ []) (replicate 8 0) 84 ∷  -- M5
+    weighs Ten 479 1 ∷  -- M6
+    weighs Ten 480 0 ∷  -- M7
+    weighs SevenPointFive 359 1 ∷  -- M8
+    weighs SevenPointFive 360 0 ∷  -- M9
+    quantizes one 16 ∷  -- M10
+    quantizes (neg one) 0 ∷  -- M11
+    quantizes nan 8 ∷  -- M12
+    quantizes (ofBits binary32 0x3fc00000) 8 ∷  -- M13: 1.5
+    costs 0 0 (0 ∷ 0 ∷ []) [] 0 ∷  -- M14: no filter
+    []
+
+-- sixteen indices, 8 after those given
+unfoldable pub padded : List ℕ → List ℕ
+padded indices = indices ++ replicate (16 - length indices) 8
+
+unfoldable pub accepts : Verdict ℕ → ℕ → Bool
+accepts (accepted bits) expected = eqb bits expected
+accepts (refused number) expected = false
+accepts (refusedAt number place found) expected = false
+
+unfoldable pub right : Case → Bool
+right (costs weighting filters orders indices bits) = accepts (costOf weighting filters orders (padded indices)) bits
+right (weighs duration nbits weighting) = eqb (weightingOf (kept duration) nbits) weighting
+right (quantizes x index) = eqb (indexOf x) index
+
+pub marked-cases-hold : every right marked ≡ true
+unfolding marked right accepts padded costOf sideChecks lowestOver countedBits filterBits filterCost orderCost ofOrder indexCosts indexCost weightingOf indexOf notAbove le neg ofBits
+marked-cases-hold = refl

@@ -1,0 +1,22 @@
+-- Any two results that a contract allows for one input coincide: the law of `tns_refusals`, cited for each public function of this crate. The
+-- part that `band_lines` hands back is a reference; what it holds is determined, and so is, by `asked_band`, where it lies.
+-- Assumes nothing.
+use mathlib.Core.Path.{_≡_, refl}
+use Rattle.tns_refusals.proofs.Determined.{Determined, coincide, itself, answerBack, refused-back}
+use Rattle.tns_frames.specs.Frames.{frameSays}
+use Rattle.tns_frames.specs.declared.FrameAnswer.{FrameAnswer}
+use Rattle.tns_frames.specs.declared.FrameAnswer.the-variants.{Sound, Refused}
+use Rattle.tns_frames.proofs.asked_band.Kinds as asked-band-kinds
+use Rattle.tns_frames.proofs.asked_band.Reads as asked-band-reads
+use Rattle.tns_frames.proofs.check_frame.Kinds as check-frame-kinds
+use Rattle.tns_frames.proofs.check_frame.Reads as check-frame-reads
+
+asked-band : Determined 0 asked-band-kinds.ps asked-band-kinds.r asked-band-reads.Post
+asked-band κs a x y s t p q = itself p q
+
+frameBack : (answer : FrameAnswer) → answerBack Sound Refused (frameSays answer) ≡ answer
+frameBack (Sound row) = refl
+frameBack (Refused why) = refused-back Sound Refused why
+
+check-frame : Determined 0 check-frame-kinds.ps check-frame-kinds.r check-frame-reads.Post
+check-frame κs a x y s t p q = coincide frameSays (answerBack Sound Refused) frameBack p q

@@ -1,0 +1,43 @@
+-- `tns_frames::band_lines` meets its contract: the part that it hands back lies within the lines, and is the asked band's.
+-- Assumes nothing.
+use mathlib.Core.Path.{_≡_, refl, sym, _∙_, ap, subst}
+use Prim.Native.Nat.{ℕ}
+use native.Mathlib.Omega.{arith}
+use borrow.Author.Needs.{needs}
+use lib.ListN.{length}
+use Rattle.tns_rows.specs.Bands.{inside}
+use Rattle.tns_frames.specs.Frames.{askedBand}
+use Rattle.tns_rows.specs.declared.row.Band.{Band}
+use Rattle.tns_rows.proofs.Bands.{Fits}
+use Rattle.tns_frames.proofs.Frames.{asked-fits}
+use Rattle.tns_frames.proofs.band_lines.Statement.{statement}
+use Rattle.tns_frames.proofs.band_lines.Tie as tie
+
+fits : (c : tie.After-asked-band) → Fits (c .asked-band .result) (length (c .before .before .args .lines .now))
+fits c =
+    let g = c .before .before .args in
+    subst (λ (b : Band). Fits b (length (g .lines .now))) (sym (c .asked-band .ensures))
+    (asked-fits (g .duration) (g .bandwidth) (g .filter) (length (g .lines .now)))
+
+asked-band-requires : tie.Need-asked-band-requires
+asked-band-requires c κs = search needs
+
+mul-lines : tie.Need-mul-lines
+mul-lines c = omega (arith, fits c)
+
+sub-result : tie.Need-sub-result
+sub-result c = fits c .order
+
+part-lines-start : tie.Need-part-lines-start
+part-lines-start c = fits c .order
+
+part-lines-end : tie.Need-part-lines-end
+part-lines-end c = fits c .end
+
+returns : tie.Need-returns
+returns c = ap (λ (b : Band). inside b (c .before .before .before .args .lines .now)) (c .before .asked-band .ensures)
+
+pub band-lines-spec : {M : Type 1} → statement M
+band-lines-spec =
+    tie.close
+    (tie.spec asked-band-requires mul-lines sub-result part-lines-start part-lines-end returns)

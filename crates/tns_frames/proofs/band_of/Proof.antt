@@ -1,0 +1,29 @@
+-- `tns_frames::band_of` meets its contract.
+-- Assumes nothing.
+use mathlib.Core.Path.{_≡_, refl, sym, _∙_}
+use Prim.Native.Nat.{ℕ, zero, suc}
+use borrow.Author.Needs.{needs}
+use Rattle.tns_rows.specs.Bands.{bandOf, noBand}
+use Rattle.tns_rows.specs.declared.row.Row.{Row}
+use Rattle.tns_frames.proofs.band_of.Statement.{statement}
+use Rattle.tns_frames.proofs.band_of.Tie as tie
+
+third : (row : Row) (filter : ℕ) → (filter ≡ 0 → ⊥) → (filter ≡ 1 → ⊥) → noBand ≡ bandOf row filter
+third row zero h k = absurd (h refl)
+third row (suc zero) h k = absurd (k refl)
+third row (suc (suc filter)) h k = refl
+
+returns : tie.Need-returns
+returns c = search needs
+
+returns-2 : tie.Need-returns-2
+returns-2 c = search needs
+
+none-requires : tie.Need-none-requires
+none-requires c κs = search needs
+
+returns-3 : tie.Need-returns-3
+returns-3 c = c .none .ensures ∙ third (c .before .before .before .args .row) (c .before .before .before .args .filter) (c .before .before .if1 .left) (c .before .if2 .left)
+
+pub band-of-spec : {M : Type 1} → statement M
+band-of-spec = tie.close (tie.spec returns returns-2 none-requires returns-3)

@@ -1,0 +1,41 @@
+-- Document 01, "Refusal numbers" and "Band rows": checks 1 to 3 of a frame, and the band that a caller asks for. Assumes nothing.
+use mathlib.Core.Bool.{_||_}
+use Prim.Native.Nat.{ℕ}
+use lib.Dec.{ltb}
+use Rattle.tns_refusals.specs.Refusals.{Verdict, accepted, refused, refusedAt, check, says}
+use Rattle.tns_rows.specs.Durations.{kept, durationOf}
+use Rattle.tns_rows.specs.Bands.{rowOf, bandOf, noBand, lastStop}
+use Rattle.tns_rows.specs.declared.duration.Duration.{Duration}
+use Rattle.tns_rows.specs.declared.row.Band.{Band}
+use Rattle.tns_rows.specs.declared.row.Row.{Row}
+use Rattle.tns_frames.specs.declared.FrameAnswer.{FrameAnswer}
+use Rattle.tns_frames.specs.declared.FrameAnswer.the-variants.{Sound, Refused}
+
+-- 3: spectrum shorter than the row's last stop, or longer than the duration's longest
+abbrev pub lengthCheck : {A : Type 0} → Duration → ℕ → ℕ → Verdict A → Verdict A
+lengthCheck duration bandwidth lines next = check 3 (ltb lines (lastStop (rowOf duration bandwidth)) || ltb (kept duration .longest) lines) next
+
+-- 1: duration code is not 0 or 1. 2: bandwidth over 4. 3: the length
+unfoldable pub frameChecks : {A : Type 0} → ℕ → ℕ → ℕ → Verdict A → Verdict A
+frameChecks duration bandwidth lines next =
+    check 1 (ltb 1 duration)
+    (check 2 (ltb 4 bandwidth)
+    (lengthCheck (durationOf duration) bandwidth lines
+    next))
+
+-- what the shared check of 1 to 3 says: the row of a frame that it finds no fault with
+abbrev pub frameSays : FrameAnswer → Verdict Row
+frameSays (Sound row) = accepted row
+frameSays (Refused why) = says why
+
+unfoldable pub frameOf : ℕ → ℕ → ℕ → Verdict Row
+frameOf duration bandwidth lines = frameChecks duration bandwidth lines (accepted (rowOf (durationOf duration) bandwidth))
+
+-- the band that a caller asks for: none where the row has no such band or where refusal 1, 2 or 3 would be given
+abbrev pub askedIn : Verdict Row → ℕ → Band
+askedIn (accepted row) filter = bandOf row filter
+askedIn (refused number) filter = noBand
+askedIn (refusedAt number place found) filter = noBand
+
+abbrev pub askedBand : ℕ → ℕ → ℕ → ℕ → Band
+askedBand duration bandwidth filter lines = askedIn (frameOf duration bandwidth lines) filter

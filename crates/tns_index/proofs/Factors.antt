@@ -1,0 +1,22 @@
+-- Every coefficient is a whole number of 2^-26 and at most 1 in size: one test over the table, and the coefficient past it. Assumes nothing.
+use mathlib.Core.Path.{_≡_, refl, sym, subst}
+use mathlib.Core.Bool.{Bool, true, false}
+use Prim.Native.Nat.{ℕ}
+use lib.Dec.{T}
+use lib.Ieee.{ofBits}
+use Rattle.tns_rounding.proofs.Factors.{Factor, isFactor, factor}
+use Rattle.tns_lists.specs.Every.{every}
+use Rattle.tns_index.specs.Quantizer.{coefficients, coefficientOf, plusZero}
+use Rattle.tns_lists.proofs.Every.{every-at}
+
+all-factors : every isFactor coefficients ≡ true
+unfolding isFactor ofBits
+all-factors = refl
+
+zero-factor : isFactor plusZero ≡ true
+unfolding isFactor ofBits
+zero-factor = refl
+
+pub coefficient-factor : (i : ℕ) → Factor (coefficientOf i)
+unfolding coefficientOf
+coefficient-factor i = factor (coefficientOf i) (subst T (sym (every-at isFactor coefficients all-factors plusZero zero-factor i)) tt)

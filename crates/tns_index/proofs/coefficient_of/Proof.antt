@@ -1,0 +1,28 @@
+-- `tns_index::coefficient_of` meets its contract: the table's coefficient, and 0 past the table.
+-- Assumes nothing.
+use mathlib.Core.Path.{sym}
+use native.Mathlib.Omega.{arith}
+use borrow.Author.Needs.{needs}
+use lib.Ieee.{nan}
+use lib.ListN.{List·getD-eq-default}
+use Rattle.tns_index.specs.Quantizer.{coefficientOf, coefficients, plusZero}
+use Rattle.tns_lists.proofs.Every.{any-default}
+use Rattle.tns_index.proofs.coefficient_of.Statement.{statement}
+use Rattle.tns_index.proofs.coefficient_of.Tie as tie
+
+returns : tie.Need-returns
+unfolding coefficientOf
+returns c = sym (List·getD-eq-default coefficients plusZero {n = c .before .args .index} (omega arith))
+
+mul-result : tie.Need-mul-result
+mul-result c = search needs
+
+array-read-result : tie.Need-array-read-result
+array-read-result c = search needs
+
+returns-2 : tie.Need-returns-2
+unfolding coefficientOf
+returns-2 c = any-default coefficients nan plusZero (c .before .args .index) (omega arith)
+
+pub coefficient-of-spec : {M : Type 1} → statement M
+coefficient-of-spec = tie.close (tie.spec returns mul-result array-read-result returns-2)

@@ -1,0 +1,79 @@
+-- `tns_index::not_above` meets its contract. The invariant: what is counted, with what is left of the table to count, is the whole count.
+-- Assumes nothing.
+use mathlib.Core.Path.{_≡_, refl, sym, _∙_}
+use mathlib.Core.Bool.{Bool, true, false, cond}
+use mathlib.Core.List.{List}
+use mathlib.Core.Logic.{⊎-elim}
+use Prim.Native.Nat.{ℕ, suc, _+_, _-_, _<_, _≤_}
+use native.Mathlib.Numerals.{add-one}
+use native.Mathlib.Omega.{arith}
+use lib.Ieee.{Float, nan, le}
+use lib.ListN.{length, getD, drop, drop-of-length-le}
+use lib.Seq.{drop-cons}
+use Rattle.tns_index.specs.Quantizer.{notAbove, thresholds}
+use Rattle.tns_index.proofs.not_above.Statement.{statement}
+use Rattle.tns_index.proofs.not_above.Tie as tie
+
+-- one threshold more
+step : (x : Float) (ts : List Float) (k : ℕ) (b : Bool) → k < length ts → le (getD ts k nan) x ≡ b → notAbove x (drop k ts) ≡ cond b 1 0 + notAbove x (drop (k + 1) ts)
+unfolding notAbove
+step x ts k b h e = rw (add-one, drop-cons ts k nan h, e)
+
+-- none is left
+end : (x : Float) (ts : List Float) (k : ℕ) → length ts ≤ k → notAbove x (drop k ts) ≡ 0
+unfolding notAbove
+end x ts k h = rw (drop-of-length-le ts h)
+
+abbrev Inv-loop : tie.InvT-loop
+Inv-loop x count₀ k₀ count k = (k ≤ 8) × (count ≤ k) × (count + notAbove x (drop k thresholds) ≡ notAbove x thresholds)
+
+abbrev μ-loop : tie.MeasureT-loop
+μ-loop x count₀ k₀ count k = 8 - k
+
+loop-holds : tie.Need-loop-holds Inv-loop μ-loop
+loop-holds c = (omega arith, omega arith, omega arith)
+
+mul-if1 : tie.Need-mul-if1 Inv-loop μ-loop
+mul-if1 c = omega arith
+
+array-read-if1 : tie.Need-array-read-if1 Inv-loop μ-loop
+array-read-if1 c = omega arith
+
+add-count : tie.Need-add-count Inv-loop μ-loop
+add-count c = omega arith
+
+add-k : tie.Need-add-k Inv-loop μ-loop
+add-k c = omega arith
+
+loop-less : tie.Need-loop-less Inv-loop μ-loop
+loop-less c = omega arith
+
+loop-again : tie.Need-loop-again Inv-loop μ-loop
+loop-again c =
+    let l = c .before .before .loop in
+    let x = c .before .before .before .args .x in
+    ⊎-elim
+    (λ w. (omega arith, omega (arith, w .1), omega (arith, w .1, step x thresholds (l .k) true (omega arith) (w .0 .taken))))
+    (λ w. (omega arith, omega (arith, w .1), omega (arith, w .1, step x thresholds (l .k) false (omega arith) (w .0 .left))))
+    (c .if1 .came)
+
+returns : tie.Need-returns Inv-loop μ-loop
+returns c =
+    let l = c .before .loop in
+    let x = c .before .before .args .x in
+    omega (arith, l .inv .2, end x thresholds (l .k) (omega arith))
+
+pub not-above-spec : {M : Type 1} → statement M
+not-above-spec =
+    tie.close
+    (tie.spec
+    Inv-loop
+    μ-loop
+    loop-holds
+    mul-if1
+    array-read-if1
+    add-count
+    add-k
+    loop-less
+    loop-again
+    returns)

@@ -1,0 +1,4 @@
+-- What a reader has to believe of indices and coefficients.
+pub mod Quantizer
+pub mod QuantizerRules
+pub mod Sines

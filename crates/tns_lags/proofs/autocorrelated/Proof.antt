@@ -1,0 +1,71 @@
+-- `tns_lags::autocorrelated` meets its contract: the lags of the three parts, long or not.
+-- Assumes nothing.
+use mathlib.Core.Path.{_≡_, refl, sym, _∙_, ap}
+use mathlib.Core.List.{List}
+use borrow.Author.Needs.{needs}
+use native.Mathlib.Omega.{arith}
+use lib.Ieee.{Float}
+use Rattle.tns_rows.specs.declared.row.Band.{Band}
+use Rattle.tns_lists.specs.Places.{tab}
+use Rattle.tns_lags.specs.Autocorrelation.{normalizedLag, autocorrelation, lowest, middle, highest}
+use Rattle.tns_lags.proofs.autocorrelated.Statement.{statement}
+use Rattle.tns_lags.proofs.autocorrelated.Tie as tie
+
+-- the lags of the three parts of a band
+of-parts : (b : Band) (lines x y z : List Float) → x ≡ lowest b lines → y ≡ middle b lines → z ≡ highest b lines
+    → tab (normalizedLag x y z) 9 ≡ autocorrelation b lines
+unfolding autocorrelation
+of-parts b lines x y z p q r = rw (p, q, r)
+
+part-of-requires : tie.Need-part-of-requires
+part-of-requires c κs = search needs
+
+part-of-requires-2 : tie.Need-part-of-requires-2
+part-of-requires-2 c κs = search needs
+
+part-of-requires-3 : tie.Need-part-of-requires-3
+part-of-requires-3 c κs = search needs
+
+least-requires : tie.Need-least-requires
+least-requires c κs = search needs
+
+least-requires-2 : tie.Need-least-requires-2
+least-requires-2 c κs = search needs
+
+short-lags-requires : tie.Need-short-lags-requires
+short-lags-requires c κs = search needs
+
+returns : tie.Need-returns
+returns c =
+    let third = c .before .before .before .before in
+    let second = third .before in
+    let first = second .before in
+    let g = first .before .before .args in
+    c .short-lags .ensures
+    ∙ of-parts (g .band) (g .lines .now) _ _ _ (first .part-of .ensures) (second .part-of2 .ensures) (third .part-of3 .ensures)
+
+long-lags-requires : tie.Need-long-lags-requires
+long-lags-requires c κs = search needs
+
+returns-2 : tie.Need-returns-2
+returns-2 c =
+    let third = c .before .before .before .before in
+    let second = third .before in
+    let first = second .before in
+    let g = first .before .before .args in
+    c .long-lags .ensures
+    ∙ of-parts (g .band) (g .lines .now) _ _ _ (first .part-of .ensures) (second .part-of2 .ensures) (third .part-of3 .ensures)
+
+pub autocorrelated-spec : {M : Type 1} → statement M
+autocorrelated-spec =
+    tie.close
+    (tie.spec
+    part-of-requires
+    part-of-requires-2
+    part-of-requires-3
+    least-requires
+    least-requires-2
+    short-lags-requires
+    returns
+    long-lags-requires
+    returns-2)

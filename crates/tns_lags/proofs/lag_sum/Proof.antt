@@ -1,0 +1,84 @@
+-- `tns_lags::lag_sum` meets its contract. The invariant: the first n products are added up, and there are no more than the subband has.
+-- Assumes nothing.
+use mathlib.Core.Path.{_≡_, refl, sym, _∙_, ap}
+use mathlib.Core.List.{List}
+use Prim.Native.Nat.{ℕ, suc, _+_, _-_, _<_, _≤_}
+use native.Mathlib.Numerals.{add-one}
+use native.Mathlib.Omega.{arith}
+use lib.Ieee.{Float}
+use lib.ListN.{length}
+use Rattle.tns_rounding.specs.Floats.{_⊕_, _⊗_}
+use Rattle.tns_lists.specs.Places.{at}
+use Rattle.tns_lags.specs.Autocorrelation.{products, lagSum}
+use Rattle.tns_lags.proofs.lag_sum.Statement.{statement}
+use Rattle.tns_lags.proofs.lag_sum.Tie as tie
+
+abbrev Inv-loop : tie.InvT-loop
+Inv-loop lines k sum₀ n₀ sum n = (n ≤ length lines - k) × (sum ≡ products lines k n)
+
+abbrev μ-loop : tie.MeasureT-loop
+μ-loop lines k sum₀ n₀ sum n = length lines - n
+
+loop-holds : tie.Need-loop-holds Inv-loop μ-loop
+unfolding products
+loop-holds c = (omega arith, refl)
+
+add-loop : tie.Need-add-loop Inv-loop μ-loop
+add-loop c = omega arith
+
+mul-sum : tie.Need-mul-sum Inv-loop μ-loop
+mul-sum c = omega arith
+
+shared-slice-read-sum : tie.Need-shared-slice-read-sum Inv-loop μ-loop
+shared-slice-read-sum c = omega arith
+
+add-sum : tie.Need-add-sum Inv-loop μ-loop
+add-sum c = omega arith
+
+mul-sum-2 : tie.Need-mul-sum-2 Inv-loop μ-loop
+mul-sum-2 c = omega arith
+
+shared-slice-read-sum-2 : tie.Need-shared-slice-read-sum-2 Inv-loop μ-loop
+shared-slice-read-sum-2 c = omega arith
+
+add-n : tie.Need-add-n Inv-loop μ-loop
+add-n c = omega arith
+
+loop-less : tie.Need-loop-less Inv-loop μ-loop
+loop-less c = omega arith
+
+one-more : (xs : List Float) (k n : ℕ) (sum : Float) → sum ≡ products xs k n → sum ⊕ at xs n ⊗ at xs (n + k) ≡ products xs k (n + 1)
+unfolding products
+one-more xs k n sum e = rw (add-one, e)
+
+loop-again : tie.Need-loop-again Inv-loop μ-loop
+loop-again c =
+    let l = c .before .before .before .loop in
+    let g = c .before .before .before .before .args in
+    (omega arith, one-more (g .lines .now) (g .k) (l .n) (l .sum) (l .inv .1))
+
+returns : tie.Need-returns Inv-loop μ-loop
+unfolding lagSum
+returns c =
+    let l = c .before .loop in
+    let g = c .before .before .args in
+    let e : l .n ≡ length (g .lines .now) - g .k = omega arith in
+    l .inv .1 ∙ ap (products (g .lines .now) (g .k)) e
+
+pub lag-sum-spec : {M : Type 1} → statement M
+lag-sum-spec =
+    tie.close
+    (tie.spec
+    Inv-loop
+    μ-loop
+    loop-holds
+    add-loop
+    mul-sum
+    shared-slice-read-sum
+    add-sum
+    mul-sum-2
+    shared-slice-read-sum-2
+    add-n
+    loop-less
+    loop-again
+    returns)

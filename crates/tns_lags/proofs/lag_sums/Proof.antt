@@ -1,0 +1,74 @@
+-- `tns_lags::lag_sums` meets its contract. The invariant: the lines passed have added their products; the last lines have fewer lags.
+-- Assumes nothing.
+use mathlib.Core.Path.{_≡_, refl, sym, _∙_, ap}
+use mathlib.Core.List.{List}
+use Prim.Native.Nat.{ℕ, _+_, _-_, _<_, _≤_}
+use native.Mathlib.Omega.{arith}
+use borrow.Author.Needs.{needs}
+use lib.Ieee.{Float}
+use lib.ListN.{length}
+use Rattle.tns_lists.specs.Places.{tab}
+use Rattle.tns_lags.specs.Steps.{addedCell, sumsTo}
+use Rattle.tns_lags.proofs.Adding.{sums-more, sums-all}
+use Rattle.tns_lags.proofs.lag_sums.Statement.{statement}
+use Rattle.tns_lags.proofs.lag_sums.Tie as tie
+
+abbrev Inv-loop : tie.InvT-loop
+Inv-loop lines sums₀ n₀ n-end sums n = (length lines - 8 ≤ n) × (n ≤ n-end) × (n-end ≡ length lines) × (sums ≡ sumsTo lines n)
+
+abbrev μ-loop : tie.MeasureT-loop
+μ-loop lines sums₀ n₀ n-end sums n = n-end - n
+
+whole-sums-requires : tie.Need-whole-sums-requires Inv-loop μ-loop
+whole-sums-requires c κs = search needs
+
+sub-n : tie.Need-sub-n Inv-loop μ-loop
+sub-n c = omega arith
+
+loop-holds : tie.Need-loop-holds Inv-loop μ-loop
+loop-holds c = (omega arith, omega arith, refl, c .whole-sums .ensures)
+
+sub-line-added : tie.Need-sub-line-added Inv-loop μ-loop
+sub-line-added c = omega arith
+
+line-added-requires : tie.Need-line-added-requires Inv-loop μ-loop
+line-added-requires c κs = omega arith
+
+add-n : tie.Need-add-n Inv-loop μ-loop
+add-n c = omega arith
+
+loop-less : tie.Need-loop-less Inv-loop μ-loop
+loop-less c = omega arith
+
+loop-again : tie.Need-loop-again Inv-loop μ-loop
+loop-again c =
+    let l = c .before .before .loop in
+    let xs = c .before .before .before .before .before .args .lines .now in (
+      omega arith,
+      omega arith,
+      refl,
+      c .line-added .ensures ∙ ap (λ (s : List Float). tab (addedCell s xs (l .n) (length xs - l .n)) 9) (l .inv .3)
+          ∙ sums-more xs (l .n) (length xs - l .n) (omega arith) (omega arith),
+    )
+
+returns : tie.Need-returns Inv-loop μ-loop
+returns c =
+    let l = c .before .loop in
+    let xs = c .before .before .before .before .args .lines .now in
+    l .inv .3 ∙ sums-all xs (l .n) (omega arith)
+
+pub lag-sums-spec : {M : Type 1} → statement M
+lag-sums-spec =
+    tie.close
+    (tie.spec
+    Inv-loop
+    μ-loop
+    whole-sums-requires
+    sub-n
+    loop-holds
+    sub-line-added
+    line-added-requires
+    add-n
+    loop-less
+    loop-again
+    returns)

@@ -1,0 +1,101 @@
+-- `tns_lags::line_added` meets its contract. The invariant: the sums below k have their product, and the others are as they were.
+-- Assumes nothing.
+use mathlib.Core.Path.{_≡_, refl, sym, _∙_, ap}
+use mathlib.Core.List.{List}
+use Prim.Native.Nat.{ℕ, _+_, _-_, _<_, _≤_}
+use native.Mathlib.Omega.{arith}
+use borrow.Author.Needs.{needs}
+use lib.Ieee.{Float}
+use lib.ListN.{length, length-set}
+use Rattle.tns_rounding.specs.Floats.{_⊕_, _⊗_}
+use Rattle.tns_lists.specs.Places.{at}
+use Rattle.tns_lags.specs.Steps.{addedCell}
+use Rattle.tns_lists.proofs.Tab.{is-tab, stored-more}
+use Rattle.tns_lags.proofs.Adding.{added-none, added-here, not-added, added-elsewhere}
+use Rattle.tns_lags.proofs.line_added.Statement.{statement}
+use Rattle.tns_lags.proofs.line_added.Tie as tie
+
+abbrev Inv-loop : tie.InvT-loop
+Inv-loop lines n m added₀ k₀ added k = (k ≤ m) × (length added ≡ 9) × ((j : ℕ) → j < 9 → at added j ≡ addedCell added₀ lines n k j)
+
+abbrev μ-loop : tie.MeasureT-loop
+μ-loop lines n m added₀ k₀ added k = m - k
+
+loop-holds : tie.Need-loop-holds Inv-loop μ-loop
+loop-holds c = (omega arith, search needs, λ j h. added-none (c .args .sums) (c .args .lines .now) (c .args .n) j)
+
+mul-added : tie.Need-mul-added Inv-loop μ-loop
+mul-added c = omega arith
+
+array-read-added : tie.Need-array-read-added Inv-loop μ-loop
+array-read-added c = omega arith
+
+mul-added-2 : tie.Need-mul-added-2 Inv-loop μ-loop
+mul-added-2 c = omega arith
+
+shared-slice-read-added : tie.Need-shared-slice-read-added Inv-loop μ-loop
+shared-slice-read-added c = omega arith
+
+add-added : tie.Need-add-added Inv-loop μ-loop
+add-added c = omega arith
+
+mul-added-3 : tie.Need-mul-added-3 Inv-loop μ-loop
+mul-added-3 c = omega arith
+
+shared-slice-read-added-2 : tie.Need-shared-slice-read-added-2 Inv-loop μ-loop
+shared-slice-read-added-2 c = omega arith
+
+mul-added-4 : tie.Need-mul-added-4 Inv-loop μ-loop
+mul-added-4 c = omega arith
+
+array-write-added : tie.Need-array-write-added Inv-loop μ-loop
+array-write-added c = omega arith
+
+add-k : tie.Need-add-k Inv-loop μ-loop
+add-k c = omega arith
+
+loop-less : tie.Need-loop-less Inv-loop μ-loop
+loop-less c = omega arith
+
+loop-again : tie.Need-loop-again Inv-loop μ-loop
+loop-again c =
+    let l = c .before .before .before .loop in
+    let g = c .before .before .before .before .args in
+    let xs = g .lines .now in (
+      omega arith,
+      simp length-set (l .inv .1),
+      stored-more (λ k j. addedCell (g .sums) xs (g .n) k j) (l .added) (l .k) (at (l .added) (l .k) ⊕ at xs (g .n) ⊗ at xs (g .n + l .k)) (omega arith)
+          (ap (λ (y : Float). y ⊕ at xs (g .n) ⊗ at xs (g .n + l .k)) (l .inv .2 (l .k) (omega arith) ∙ sym (not-added (g .sums) xs (g .n) (l .k)))
+          ∙ added-here (g .sums) xs (g .n) (l .k))
+          (added-elsewhere (g .sums) xs (g .n) (l .k))
+          (l .inv .2),
+    )
+
+returns : tie.Need-returns Inv-loop μ-loop
+returns c =
+    let l = c .before .loop in
+    let g = c .before .before .args in
+    let e : l .k ≡ g .m = omega arith in
+    is-tab (addedCell (g .sums) (g .lines .now) (g .n) (g .m)) 9 (l .added) (l .inv .1)
+    (λ j h. l .inv .2 j h ∙ ap (λ (k : ℕ). addedCell (g .sums) (g .lines .now) (g .n) k j) e)
+
+pub line-added-spec : {M : Type 1} → statement M
+line-added-spec =
+    tie.close
+    (tie.spec
+    Inv-loop
+    μ-loop
+    loop-holds
+    mul-added
+    array-read-added
+    mul-added-2
+    shared-slice-read-added
+    add-added
+    mul-added-3
+    shared-slice-read-added-2
+    mul-added-4
+    array-write-added
+    add-k
+    loop-less
+    loop-again
+    returns)

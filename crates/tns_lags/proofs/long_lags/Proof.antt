@@ -1,0 +1,39 @@
+-- `tns_lags::long_lags` meets its contract: the lags from the sums of the three subbands.
+-- Assumes nothing.
+use mathlib.Core.Path.{_≡_, refl, sym, _∙_, ap}
+use borrow.Author.Needs.{needs}
+use Rattle.tns_lags.proofs.Lags.{lags-are}
+use Rattle.tns_lags.proofs.long_lags.Statement.{statement}
+use Rattle.tns_lags.proofs.long_lags.Tie as tie
+
+lag-sums-requires : tie.Need-lag-sums-requires
+lag-sums-requires c κs = search needs
+
+lag-sums-requires-2 : tie.Need-lag-sums-requires-2
+lag-sums-requires-2 c κs = search needs
+
+lag-sums-requires-3 : tie.Need-lag-sums-requires-3
+lag-sums-requires-3 c κs = search needs
+
+lags-of-requires : tie.Need-lags-of-requires
+lags-of-requires c κs = search needs
+
+returns : tie.Need-returns
+returns c =
+    let third = c .before in
+    let second = third .before in
+    let first = second .before in
+    let g = first .before .before .before .before .args in
+    c .lags-of .ensures
+    ∙ lags-are (g .lowest .now) (g .middle .now) (g .highest .now) (first .lag-sums .result) (second .lag-sums2 .result) (third .lag-sums3 .result)
+    (first .lag-sums .ensures) (second .lag-sums2 .ensures) (third .lag-sums3 .ensures)
+
+pub long-lags-spec : {M : Type 1} → statement M
+long-lags-spec =
+    tie.close
+    (tie.spec
+    lag-sums-requires
+    lag-sums-requires-2
+    lag-sums-requires-3
+    lags-of-requires
+    returns)

@@ -1,0 +1,79 @@
+-- `tns_lags::normalized` meets its contract. The invariant: the places passed hold their lags.
+-- Assumes nothing.
+use mathlib.Core.Path.{_≡_, refl, sym, _∙_, ap}
+use mathlib.Core.List.{List}
+use Prim.Native.Nat.{ℕ, _+_, _-_, _<_, _≤_}
+use native.Mathlib.Omega.{arith}
+use borrow.Author.Needs.{needs}
+use lib.Ieee.{Float}
+use lib.ListN.{length, length-set}
+use Rattle.tns_rounding.specs.Floats.{_⊗_}
+use Rattle.tns_lists.specs.Places.{at}
+use Rattle.tns_lags.specs.Autocorrelation.{lagWindow}
+use Rattle.tns_lags.specs.Steps.{lagCell}
+use Rattle.tns_lists.proofs.Tab.{is-tab, filled-more}
+use Rattle.tns_lags.proofs.normalized.Statement.{statement}
+use Rattle.tns_lags.proofs.normalized.Tie as tie
+
+abbrev Inv-loop : tie.InvT-loop
+Inv-loop silent a b c lags₀ k₀ lags k = (k ≤ 9) × (length lags ≡ 9) × ((j : ℕ) → j < k → at lags j ≡ lagCell silent a b c j)
+
+abbrev μ-loop : tie.MeasureT-loop
+μ-loop silent a b c lags₀ k₀ lags k = 9 - k
+
+loop-holds : tie.Need-loop-holds Inv-loop μ-loop
+loop-holds c = (omega arith, refl, λ j h. absurd (omega arith))
+
+plain-lag-requires : tie.Need-plain-lag-requires Inv-loop μ-loop
+plain-lag-requires c κs = omega arith
+
+mul-lags : tie.Need-mul-lags Inv-loop μ-loop
+mul-lags c = omega arith
+
+array-read-lags : tie.Need-array-read-lags Inv-loop μ-loop
+array-read-lags c = omega arith
+
+mul-lags-2 : tie.Need-mul-lags-2 Inv-loop μ-loop
+mul-lags-2 c = omega arith
+
+array-write-lags : tie.Need-array-write-lags Inv-loop μ-loop
+array-write-lags c = omega arith
+
+add-k : tie.Need-add-k Inv-loop μ-loop
+add-k c = omega arith
+
+loop-less : tie.Need-loop-less Inv-loop μ-loop
+loop-less c = omega arith
+
+loop-again : tie.Need-loop-again Inv-loop μ-loop
+loop-again c =
+    let l = c .before .before .loop in
+    let g = c .before .before .before .args in (
+      omega arith,
+      simp length-set (l .inv .1),
+      filled-more (lagCell (g .silent) (g .a) (g .b) (g .c)) (l .lags) (l .k) (c .plain-lag .result ⊗ at lagWindow (l .k)) (omega arith)
+          (ap (λ (x : Float). x ⊗ at lagWindow (l .k)) (c .plain-lag .ensures)) (l .inv .2),
+    )
+
+returns : tie.Need-returns Inv-loop μ-loop
+returns c =
+    let l = c .before .loop in
+    let g = c .before .before .args in
+    is-tab (lagCell (g .silent) (g .a) (g .b) (g .c)) 9 (l .lags) (l .inv .1) (λ j h. l .inv .2 j (omega arith))
+
+pub normalized-spec : {M : Type 1} → statement M
+normalized-spec =
+    tie.close
+    (tie.spec
+    Inv-loop
+    μ-loop
+    loop-holds
+    plain-lag-requires
+    mul-lags
+    array-read-lags
+    mul-lags-2
+    array-write-lags
+    add-k
+    loop-less
+    loop-again
+    returns)

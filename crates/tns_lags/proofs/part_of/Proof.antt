@@ -1,0 +1,53 @@
+-- `tns_lags::part_of` meets its contract: start and stop cut at the end of the lines give the same part.
+-- Assumes nothing.
+use mathlib.Core.Path.{_≡_, refl, sym, _∙_, ap}
+use Prim.Native.Nat.{ℕ, min}
+use native.Mathlib.Omega.{arith}
+use borrow.Author.Needs.{needs}
+use lib.ListN.{length}
+use Rattle.tns_lags.specs.Autocorrelation.{part}
+use Rattle.tns_lags.proofs.Parts.{part-cut}
+use Rattle.tns_lags.proofs.part_of.Statement.{statement}
+use Rattle.tns_lags.proofs.part_of.Tie as tie
+
+least-requires : tie.Need-least-requires
+least-requires c κs = search needs
+
+least-requires-2 : tie.Need-least-requires-2
+least-requires-2 c κs = search needs
+
+mul-result : tie.Need-mul-result
+mul-result c = search needs
+
+sub-result : tie.Need-sub-result
+sub-result c = search needs
+
+part-result-start : tie.Need-part-result-start
+part-result-start c = search needs
+
+part-result-end : tie.Need-part-result-end
+part-result-end c = search needs
+
+returns : tie.Need-returns
+returns c =
+    let second = c .before in
+    let first = second .before in
+    let g = first .before .before .args in
+    let xs = g .lines .now in
+    let end : first .least .result ≡ min (g .stop) (length xs) = first .least .ensures in
+    let begin : second .least2 .result ≡ min (g .start) (min (g .stop) (length xs)) = second .least2 .ensures ∙ ap (λ (e : ℕ). min (g .start) e) end in
+    ap (λ (b : ℕ). part b (first .least .result) xs) begin
+    ∙ ap (λ (e : ℕ). part (min (g .start) (min (g .stop) (length xs))) e xs) end
+    ∙ part-cut (g .start) (g .stop) xs
+
+pub part-of-spec : {M : Type 1} → statement M
+part-of-spec =
+    tie.close
+    (tie.spec
+    least-requires
+    least-requires-2
+    mul-result
+    sub-result
+    part-result-start
+    part-result-end
+    returns)

@@ -1,0 +1,39 @@
+-- `tns_lags::short_lags` meets its contract: the lags from the sums of the three subbands.
+-- Assumes nothing.
+use mathlib.Core.Path.{_≡_, refl, sym, _∙_, ap}
+use borrow.Author.Needs.{needs}
+use Rattle.tns_lags.proofs.Lags.{lags-are}
+use Rattle.tns_lags.proofs.short_lags.Statement.{statement}
+use Rattle.tns_lags.proofs.short_lags.Tie as tie
+
+short-sums-requires : tie.Need-short-sums-requires
+short-sums-requires c κs = search needs
+
+short-sums-requires-2 : tie.Need-short-sums-requires-2
+short-sums-requires-2 c κs = search needs
+
+short-sums-requires-3 : tie.Need-short-sums-requires-3
+short-sums-requires-3 c κs = search needs
+
+lags-of-requires : tie.Need-lags-of-requires
+lags-of-requires c κs = search needs
+
+returns : tie.Need-returns
+returns c =
+    let third = c .before in
+    let second = third .before in
+    let first = second .before in
+    let g = first .before .before .before .before .args in
+    c .lags-of .ensures
+    ∙ lags-are (g .lowest .now) (g .middle .now) (g .highest .now) (first .short-sums .result) (second .short-sums2 .result) (third .short-sums3 .result)
+    (first .short-sums .ensures) (second .short-sums2 .ensures) (third .short-sums3 .ensures)
+
+pub short-lags-spec : {M : Type 1} → statement M
+short-lags-spec =
+    tie.close
+    (tie.spec
+    short-sums-requires
+    short-sums-requires-2
+    short-sums-requires-3
+    lags-of-requires
+    returns)

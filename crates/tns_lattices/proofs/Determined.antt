@@ -1,0 +1,15 @@
+-- Any two results that a contract allows for one input coincide: the law of `tns_refusals`, cited for each public function of this crate, and with
+-- it what is left in the lines that were lent. The logic has one NaN, so of a number that is a NaN the bits are left open. Assumes nothing.
+use mathlib.Core.List.{List}
+use lib.Ieee.{Float}
+use Rattle.tns_refusals.proofs.Determined.{DeterminedWith, itself}
+use Rattle.tns_lattices.proofs.decoder.band_decoded.Kinds as band-decoded-kinds
+use Rattle.tns_lattices.proofs.decoder.band_decoded.Reads as band-decoded-reads
+use Rattle.tns_lattices.proofs.encoder.band_encoded.Kinds as band-encoded-kinds
+use Rattle.tns_lattices.proofs.encoder.band_encoded.Reads as band-encoded-reads
+
+band-decoded : DeterminedWith 1 band-decoded-kinds.ps band-decoded-kinds.r band-decoded-reads.Post (List Float) (λ κs s. s .1 .1 .1 .0 .now)
+band-decoded κs a x y s t p q = (itself (p .0) (q .0), itself (p .1) (q .1))
+
+band-encoded : DeterminedWith 1 band-encoded-kinds.ps band-encoded-kinds.r band-encoded-reads.Post (List Float) (λ κs s. s .1 .1 .1 .0 .now)
+band-encoded κs a x y s t p q = (itself (p .0) (q .0), itself (p .1) (q .1))

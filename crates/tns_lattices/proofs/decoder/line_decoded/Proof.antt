@@ -1,0 +1,139 @@
+-- `tns_lattices::decoder::line_decoded` meets its contract. The invariant: the stages still to come, on the line and the states as they are, give
+-- what all of them give.
+-- Assumes nothing.
+use mathlib.Core.Path.{_≡_, refl, sym, _∙_, ap}
+use mathlib.Core.List.{List}
+use Prim.Native.Nat.{ℕ, zero, suc, _+_, _-_, _<_, _≤_}
+use native.Mathlib.Numerals.{add-one, sub-one}
+use native.Mathlib.Nat.{not-suc-le-zero}
+use native.Mathlib.Omega.{arith}
+use lib.Ieee.{Float, nan, add, sub, mul, binary32}
+use lib.ListN.{getD, set}
+use Rattle.tns_lattices.specs.DecoderLattice.{stage, stagesBelow, passing, lineDecoded}
+use Rattle.tns_lattices.specs.declared.decoder.Passed.{Passed}
+use Rattle.tns_lattices.proofs.decoder.line_decoded.Statement.{statement}
+use Rattle.tns_lattices.proofs.decoder.line_decoded.Tie as tie
+
+-- t after the stage below k
+abbrev below : List Float → ℕ → Float → List Float → Float
+below q k t s = sub binary32 t (mul binary32 (getD q (k - 1) nan) (getD s (k - 1) nan))
+
+-- the highest stage that is left, as the code does it, and then those below it
+one-stage : (q : List Float) (k : ℕ) (t : Float) (s : List Float) → 0 < k
+    → stagesBelow q k (passing t s)
+    ≡ stagesBelow q (k - 1) (passing (below q k t s) (set s (k - 1 + 1) (add binary32 (mul binary32 (getD q (k - 1) nan) (below q k t s)) (getD s (k - 1) nan))))
+unfolding stagesBelow stage
+one-stage q zero t s h = absurd (not-suc-le-zero h)
+one-stage q (suc k) t s h = rw (sub-one, add-one)
+
+none-left : (q : List Float) (p : Passed) → stagesBelow q 0 p ≡ p
+unfolding stagesBelow
+none-left q p = refl
+
+whole : (q : List Float) (order : ℕ) (states : List Float) (line : Float) (p : Passed) → 0 < order
+    → stagesBelow q (order - 1) (passing (sub binary32 line (mul binary32 (getD q (order - 1) nan) (getD states (order - 1) nan))) states) ≡ p
+    → passing (p .t) (set (p .states) 0 (p .t)) ≡ lineDecoded q order states line
+unfolding lineDecoded
+whole q zero states line p h e = absurd (not-suc-le-zero h)
+whole q (suc k) states line p h e = rw (sym e, sub-one)
+
+abbrev Inv-loop : tie.InvT-loop
+Inv-loop order line q last state₀ t₀ k₀ state t k = (k ≤ last) × (stagesBelow q last (passing t₀ state₀) ≡ stagesBelow q k (passing t state))
+
+abbrev μ-loop : tie.MeasureT-loop
+μ-loop order line q last state₀ t₀ k₀ state t k = k
+
+sub-last : tie.Need-sub-last Inv-loop μ-loop
+sub-last c = omega arith
+
+mul-t : tie.Need-mul-t Inv-loop μ-loop
+mul-t c = omega arith
+
+array-read-t : tie.Need-array-read-t Inv-loop μ-loop
+array-read-t c = omega arith
+
+mul-t-2 : tie.Need-mul-t-2 Inv-loop μ-loop
+mul-t-2 c = omega arith
+
+array-read-t-2 : tie.Need-array-read-t-2 Inv-loop μ-loop
+array-read-t-2 c = omega arith
+
+loop-holds : tie.Need-loop-holds Inv-loop μ-loop
+loop-holds c = (omega arith, refl)
+
+sub-k : tie.Need-sub-k Inv-loop μ-loop
+sub-k c = omega arith
+
+mul-old : tie.Need-mul-old Inv-loop μ-loop
+mul-old c = omega arith
+
+array-read-old : tie.Need-array-read-old Inv-loop μ-loop
+array-read-old c = omega arith
+
+mul-t-3 : tie.Need-mul-t-3 Inv-loop μ-loop
+mul-t-3 c = omega arith
+
+array-read-t-3 : tie.Need-array-read-t-3 Inv-loop μ-loop
+array-read-t-3 c = omega arith
+
+mul-state : tie.Need-mul-state Inv-loop μ-loop
+mul-state c = omega arith
+
+array-read-state : tie.Need-array-read-state Inv-loop μ-loop
+array-read-state c = omega arith
+
+add-state : tie.Need-add-state Inv-loop μ-loop
+add-state c = omega arith
+
+mul-state-2 : tie.Need-mul-state-2 Inv-loop μ-loop
+mul-state-2 c = omega arith
+
+array-write-state : tie.Need-array-write-state Inv-loop μ-loop
+array-write-state c = omega arith
+
+loop-less : tie.Need-loop-less Inv-loop μ-loop
+loop-less c = omega arith
+
+loop-again : tie.Need-loop-again Inv-loop μ-loop
+loop-again c =
+    let l = c .before .loop in
+    let g = c .before .before .args in
+    (omega arith, l .inv .1 ∙ one-stage (g .t1) (l .k) (l .t) (l .state) (omega arith))
+
+array-write-state-2 : tie.Need-array-write-state-2 Inv-loop μ-loop
+array-write-state-2 c = omega arith
+
+returns : tie.Need-returns Inv-loop μ-loop
+returns c =
+    let l = c .before .loop in
+    let g = c .before .before .args in
+    let done : l .k ≡ 0 = omega arith in
+    whole (g .t1) (g .order) (g .states) (g .line) (passing (l .t) (l .state)) (omega (arith, c .before .before .pre))
+    (l .inv .1 ∙ ap (λ (k : ℕ). stagesBelow (g .t1) k (passing (l .t) (l .state))) done ∙ none-left (g .t1) (passing (l .t) (l .state)))
+
+pub line-decoded-spec : {M : Type 1} → statement M
+line-decoded-spec =
+    tie.close
+    (tie.spec
+    Inv-loop
+    μ-loop
+    sub-last
+    mul-t
+    array-read-t
+    mul-t-2
+    array-read-t-2
+    loop-holds
+    sub-k
+    mul-old
+    array-read-old
+    mul-t-3
+    array-read-t-3
+    mul-state
+    array-read-state
+    add-state
+    mul-state-2
+    array-write-state
+    loop-less
+    loop-again
+    array-write-state-2
+    returns)

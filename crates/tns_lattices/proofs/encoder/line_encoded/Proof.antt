@@ -1,0 +1,68 @@
+-- `tns_lattices::encoder::line_encoded` meets its contract: the stages below the last, then the last.
+-- Assumes nothing.
+use mathlib.Core.Path.{_≡_, refl, sym, _∙_, ap}
+use mathlib.Core.List.{List}
+use Prim.Native.Nat.{ℕ, zero, suc, _-_, _<_, _≤_}
+use native.Mathlib.Numerals.{sub-one}
+use native.Mathlib.Nat.{not-suc-le-zero}
+use native.Mathlib.Omega.{arith}
+use borrow.Author.Needs.{needs}
+use lib.Ieee.{Float, nan, add, mul, binary32}
+use lib.ListN.{getD, set}
+use Rattle.tns_lattices.specs.EncoderLattice.{stagesTo, entering, lineEncoded}
+use Rattle.tns_lattices.specs.declared.encoder.Passing.{Passing}
+use Rattle.tns_lattices.specs.declared.encoder.Passed.{Passed}
+use Rattle.tns_lattices.proofs.encoder.line_encoded.Statement.{statement}
+use Rattle.tns_lattices.proofs.encoder.line_encoded.Tie as tie
+
+whole : (q : List Float) (order : ℕ) (states : List Float) (line : Float) (p : Passing) → 0 < order → p ≡ stagesTo q (order - 1) (entering line states)
+    → _≡_ {A = Passed}
+    (record { t = add binary32 (p .t) (mul binary32 (getD q (order - 1) nan) (getD (p .states) (order - 1) nan)); states = set (p .states) (order - 1) (p .b) })
+    (lineEncoded q order states line)
+unfolding lineEncoded
+whole q zero states line p h e = absurd (not-suc-le-zero h)
+whole q (suc k) states line p h e = rw (e, sub-one)
+
+sub-last : tie.Need-sub-last
+sub-last c = search needs
+
+stages-up-requires : tie.Need-stages-up-requires
+stages-up-requires c κs = search needs
+
+mul-t : tie.Need-mul-t
+mul-t c = search needs
+
+array-read-t : tie.Need-array-read-t
+array-read-t c = search needs
+
+mul-t-2 : tie.Need-mul-t-2
+mul-t-2 c = search needs
+
+array-read-t-2 : tie.Need-array-read-t-2
+array-read-t-2 c = search needs
+
+mul-after : tie.Need-mul-after
+mul-after c = search needs
+
+array-write-after : tie.Need-array-write-after
+array-write-after c = search needs
+
+returns : tie.Need-returns
+returns c =
+    let start = c .before .before .before in
+    let g = start .args in
+    whole (g .t1) (g .order) (g .states) (g .line) (c .before .before .stages-up .result) (omega (arith, start .pre)) (c .before .before .stages-up .ensures)
+
+pub line-encoded-spec : {M : Type 1} → statement M
+line-encoded-spec =
+    tie.close
+    (tie.spec
+    sub-last
+    stages-up-requires
+    mul-t
+    array-read-t
+    mul-t-2
+    array-read-t-2
+    mul-after
+    array-write-after
+    returns)

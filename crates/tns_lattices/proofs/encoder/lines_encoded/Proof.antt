@@ -1,0 +1,106 @@
+-- `tns_lattices::encoder::lines_encoded` meets its contract. The invariant: the lines done, and what the definition makes of the rest from here,
+-- are what it makes of all; the same of the states.
+-- Assumes nothing.
+use mathlib.Core.Path.{_≡_, refl, sym, _∙_, ap}
+use mathlib.Core.List.{List, _++_}
+use Prim.Native.Nat.{ℕ, _+_, _-_, _<_, _≤_}
+use native.Mathlib.Omega.{arith}
+use borrow.Author.Needs.{needs}
+use lib.Ieee.{Float, nan}
+use lib.ListN.{length, take, drop, getD, set, length-set}
+use Rattle.tns_lists.proofs.InPlace.{one-more, state-more, none-left, state-left}
+use Rattle.tns_lattices.specs.EncoderLattice.{lineEncoded, linesEncoded, statesAfter}
+use Rattle.tns_lattices.specs.declared.encoder.Passed.{Passed}
+use Rattle.tns_lattices.proofs.encoder.lines_encoded.Statement.{statement}
+use Rattle.tns_lattices.proofs.encoder.lines_encoded.Tie as tie
+
+-- what a line becomes, and the states after it
+module _ (q : List Float) (order : ℕ) where
+  abbrev becomes : List Float → Float → Float
+  becomes s x = lineEncoded q order s x .t
+
+  abbrev after : List Float → Float → List Float
+  after s x = lineEncoded q order s x .states
+
+abbrev Inv-loop : tie.InvT-loop
+Inv-loop q order lines₀ state₀ i₀ lines state i =
+    (i ≤ length lines₀)
+    × (length lines ≡ length lines₀)
+    × (linesEncoded q order state₀ lines₀ ≡ take i lines ++ linesEncoded q order state (drop i lines))
+    × (statesAfter q order state₀ lines₀ ≡ statesAfter q order state (drop i lines))
+
+abbrev μ-loop : tie.MeasureT-loop
+μ-loop q order lines₀ state₀ i₀ lines state i = length lines₀ - i
+
+loop-holds : tie.Need-loop-holds Inv-loop μ-loop
+loop-holds c = (omega arith, refl, refl, refl)
+
+mul-line-encoded : tie.Need-mul-line-encoded Inv-loop μ-loop
+mul-line-encoded c = omega arith
+
+slice-read-line-encoded : tie.Need-slice-read-line-encoded Inv-loop μ-loop
+slice-read-line-encoded c = omega arith
+
+line-encoded-requires : tie.Need-line-encoded-requires Inv-loop μ-loop
+line-encoded-requires c κs = c .before .before .before .before .pre
+
+mul-lines : tie.Need-mul-lines Inv-loop μ-loop
+mul-lines c = omega arith
+
+slice-write-lines : tie.Need-slice-write-lines Inv-loop μ-loop
+slice-write-lines c = search needs
+
+add-i : tie.Need-add-i Inv-loop μ-loop
+add-i c = omega arith
+
+loop-less : tie.Need-loop-less Inv-loop μ-loop
+loop-less c = omega arith
+
+loop-again : tie.Need-loop-again Inv-loop μ-loop
+unfolding linesEncoded statesAfter
+loop-again c =
+    let l = c .before .before .before .before .loop in
+    let g = c .before .before .before .before .before .before .args in
+    let p = c .before .line-encoded .result in
+    let e = c .before .line-encoded .ensures in
+    let f = becomes (g .q) (g .order) in
+    let h = after (g .q) (g .order) in
+    let t = ap (λ (p : Passed). p .t) e in
+    let s = ap (λ (p : Passed). p .states) e in (
+      omega arith,
+      simp length-set (l .inv .1),
+      l .inv .2 ∙ one-more f h nan (l .state) (p .states) (l .lines) (l .i) (p .t) (omega arith) t s,
+      l .inv .3 ∙ state-more f h nan (l .state) (p .states) (l .lines) (l .i) (p .t) (omega arith) s,
+    )
+
+same-length : tie.Need-same-length Inv-loop μ-loop
+same-length c = search needs
+
+returns : tie.Need-returns Inv-loop μ-loop
+unfolding linesEncoded statesAfter
+returns c =
+    let l = c .before .loop in
+    let g = c .before .before .before .args in
+    let f = becomes (g .q) (g .order) in
+    let h = after (g .q) (g .order) in (
+      sym (l .inv .3 ∙ state-left f h nan (l .state) (l .lines) (l .i) (omega arith)),
+      sym (l .inv .2 ∙ none-left f h nan (l .state) (l .lines) (l .i) (omega arith)),
+    )
+
+pub lines-encoded-spec : {M : Type 1} → statement M
+lines-encoded-spec =
+    tie.close
+    (tie.spec
+    Inv-loop
+    μ-loop
+    loop-holds
+    mul-line-encoded
+    slice-read-line-encoded
+    line-encoded-requires
+    mul-lines
+    slice-write-lines
+    add-i
+    loop-less
+    loop-again
+    same-length
+    returns)

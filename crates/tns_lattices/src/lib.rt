@@ -1,0 +1,7 @@
+// Both lattices, the decoder's and the encoder's, on the lines of one band. They know nothing of side
+// data: coefficients, an order and eight states go in, and the states come back. Assumes nothing.
+mod decoder;
+mod encoder;
+
+pub use decoder::band_decoded;
+pub use encoder::band_encoded;

@@ -1,0 +1,6 @@
+-- The laws of lists.
+pub mod Every
+pub mod InPlace
+pub mod Filled
+pub mod Tab
+pub mod Joined

@@ -1,0 +1,4 @@
+-- What a reader has to believe of lists.
+pub mod Every
+pub mod Lines
+pub mod Places

@@ -1,0 +1,80 @@
+-- `tns_reflections::damped_row` meets its contract. The invariant: the places passed hold their products.
+-- Assumes nothing.
+use mathlib.Core.Path.{_≡_, refl, sym, _∙_, ap}
+use mathlib.Core.List.{List}
+use Prim.Native.Nat.{ℕ, _+_, _-_, _<_, _≤_}
+use native.Mathlib.Omega.{arith}
+use borrow.Author.Needs.{needs}
+use lib.Ieee.{Float}
+use lib.ListN.{length, length-set}
+use Rattle.tns_rounding.specs.Floats.{_⊗_}
+use Rattle.tns_lists.specs.Places.{at}
+use Rattle.tns_reflections.specs.Reflections.{power, damped}
+use Rattle.tns_lists.proofs.Tab.{is-tab, filled-more}
+use Rattle.tns_reflections.proofs.damped_row.Statement.{statement}
+use Rattle.tns_reflections.proofs.damped_row.Tie as tie
+
+abbrev Inv-loop : tie.InvT-loop
+Inv-loop damping row out₀ k₀ out k = (k ≤ 9) × (length out ≡ 9) × ((j : ℕ) → j < k → at out j ≡ at row j ⊗ power damping j)
+
+abbrev μ-loop : tie.MeasureT-loop
+μ-loop damping row out₀ k₀ out k = 9 - k
+
+loop-holds : tie.Need-loop-holds Inv-loop μ-loop
+loop-holds c = (omega arith, refl, λ j h. absurd (omega arith))
+
+mul-out : tie.Need-mul-out Inv-loop μ-loop
+mul-out c = omega arith
+
+array-read-out : tie.Need-array-read-out Inv-loop μ-loop
+array-read-out c = omega arith
+
+power-of-requires : tie.Need-power-of-requires Inv-loop μ-loop
+power-of-requires c κs = search needs
+
+mul-out-2 : tie.Need-mul-out-2 Inv-loop μ-loop
+mul-out-2 c = omega arith
+
+array-write-out : tie.Need-array-write-out Inv-loop μ-loop
+array-write-out c = omega arith
+
+add-k : tie.Need-add-k Inv-loop μ-loop
+add-k c = omega arith
+
+loop-less : tie.Need-loop-less Inv-loop μ-loop
+loop-less c = omega arith
+
+loop-again : tie.Need-loop-again Inv-loop μ-loop
+loop-again c =
+    let l = c .before .before .loop in
+    let g = c .before .before .before .args in (
+      omega arith,
+      simp length-set (l .inv .1),
+      filled-more (λ j. at (g .t1) j ⊗ power (g .damping) j) (l .out) (l .k) (at (g .t1) (l .k) ⊗ c .power-of .result) (omega arith)
+          (ap (λ (y : Float). at (g .t1) (l .k) ⊗ y) (c .power-of .ensures))
+          (l .inv .2),
+    )
+
+returns : tie.Need-returns Inv-loop μ-loop
+unfolding damped
+returns c =
+    let l = c .before .loop in
+    let g = c .before .before .args in
+    is-tab (λ j. at (g .t1) j ⊗ power (g .damping) j) 9 (l .out) (l .inv .1) (λ j h. l .inv .2 j (omega arith))
+
+pub damped-row-spec : {M : Type 1} → statement M
+damped-row-spec =
+    tie.close
+    (tie.spec
+    Inv-loop
+    μ-loop
+    loop-holds
+    mul-out
+    array-read-out
+    power-of-requires
+    mul-out-2
+    array-write-out
+    add-k
+    loop-less
+    loop-again
+    returns)

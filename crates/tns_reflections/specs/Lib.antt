@@ -1,0 +1,2 @@
+-- What a reader has to believe of damping and the step-down.
+pub mod Reflections

@@ -1,0 +1,35 @@
+-- `tns_side::quantize_all` meets its contract.
+-- Assumes nothing.
+use mathlib.Core.Path.{_≡_, refl, sym, _∙_, ap}
+use mathlib.Core.List.{List, map}
+use Prim.Native.Nat.{ℕ}
+use borrow.Author.Needs.{needs}
+use lib.Ieee.{Float}
+use Rattle.tns_index.specs.Quantizer.{indexOf, coefficientOf, orderOf}
+use Rattle.tns_side.specs.Quantized.{quantizedOf}
+use Rattle.tns_side.specs.declared.Quantized.{Quantized}
+use Rattle.tns_side.proofs.quantize_all.Statement.{statement}
+use Rattle.tns_side.proofs.quantize_all.Tie as tie
+
+parts : (r : List Float) (order : ℕ) (is : List ℕ) (cs : List Float) → is ≡ map indexOf r → cs ≡ map coefficientOf is → order ≡ orderOf is
+    → _≡_ {A = Quantized} (record { order = order; indices = is; coefficients = cs }) (quantizedOf r)
+unfolding quantizedOf
+parts r order is cs ei ec eo = rw (eo, ec, ei)
+
+indices-of-requires : tie.Need-indices-of-requires
+indices-of-requires c κs = search needs
+
+table-coefficients-requires : tie.Need-table-coefficients-requires
+table-coefficients-requires c κs = search needs
+
+order-of-requires : tie.Need-order-of-requires
+order-of-requires c κs = search needs
+
+returns : tie.Need-returns
+returns c =
+    parts (c .before .before .before .args .reflections) (c .order-of .result) (c .before .before .indices-of .result) (c .before .table-coefficients .result)
+    (c .before .before .indices-of .ensures) (c .before .table-coefficients .ensures) (c .order-of .ensures)
+
+pub quantize-all-spec : {M : Type 1} → statement M
+quantize-all-spec =
+    tie.close (tie.spec indices-of-requires table-coefficients-requires order-of-requires returns)
