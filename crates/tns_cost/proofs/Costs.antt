@@ -9,16 +9,16 @@ use Rattle.tns_refusals.specs.Refusals.{lowestOver}
 use Rattle.tns_refusals.specs.declared.Over.the-variants.{Nowhere}
 use Rattle.tns_refusals.proofs.Sides.{none-over, none-further}
 use Rattle.tns_tables.proofs.Costs.{order-cost-affordable, order-cost-at-most, index-costs-at-most}
-use Rattle.tns_cost.specs.Cost.{filterCost, filterBits, countedBits}
+use Rattle.tns_cost.specs.Cost.{orderCost, indexCosts, filterCost, filterBits, countedBits}
 
 pub filter-cost-at-most : (weighting order : ℕ) (indices : List ℕ) → order ≤ 8 → filterCost weighting order indices ≤ 83 * 2048
-unfolding filterCost
+unfolding filterCost orderCost indexCosts
 filter-cost-at-most weighting order indices h =
     omega (arith, order-cost-at-most weighting order h, index-costs-at-most 0 (take order indices), length-take order indices)
 
 -- whatever the order
 pub filter-cost-affordable : (weighting order : ℕ) (indices : List ℕ) → filterCost weighting order indices ≤ 20480 + 20480 * order
-unfolding filterCost
+unfolding filterCost orderCost indexCosts
 filter-cost-affordable weighting order indices =
     omega (arith, order-cost-affordable weighting order, index-costs-at-most 0 (take order indices), length-take order indices)
 

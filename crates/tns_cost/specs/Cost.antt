@@ -4,14 +4,21 @@ use mathlib.Core.List.{List, [], _∷_}
 use Prim.Native.Nat.{ℕ, zero, suc, _+_, _/_}
 use lib.Dec.{ltb}
 use lib.ListN.{take, drop}
-use Rattle.tns_tables.specs.Tables.{orderCost, indexCosts}
+use Rattle.tns_tables.specs.Tables.{ofOrder, orderBits, coefBits, cellsFrom}
 use Rattle.tns_refusals.specs.Refusals.{Verdict, accepted, refused, check, sideChecks, says}
 use Rattle.tns_cost.specs.declared.budget.CostAnswer.{CostAnswer}
 use Rattle.tns_cost.specs.declared.budget.CostAnswer.the-variants.{Bits, Refused}
 
+-- Table T: what an order costs, and what some indices cost, each at its place from the first on, in 2048ths of a bit
+unfoldable pub orderCost : ℕ → ℕ → ℕ
+orderCost weighting order = ofOrder orderBits weighting order
+
+unfoldable pub indexCosts : List ℕ → ℕ
+indexCosts indices = cellsFrom coefBits 0 indices
+
 -- order cost + cost of indices below the order, in 2048ths
 unfoldable pub filterCost : ℕ → ℕ → List ℕ → ℕ
-filterCost weighting order indices = orderCost weighting order + indexCosts 0 (take order indices)
+filterCost weighting order indices = orderCost weighting order + indexCosts (take order indices)
 
 -- one bit plus that cost, rounded up
 unfoldable pub filterBits : ℕ → ℕ → List ℕ → ℕ

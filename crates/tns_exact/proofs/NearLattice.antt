@@ -26,7 +26,7 @@ use Rattle.tns_lattices.specs.EncoderLattice.{stage, stagesTo, entering, lineEn
 use Rattle.tns_lattices.specs.States.{atRest}
 use Rattle.tns_exact.specs.Exact.{finer, ExactPassing, ExactPassed, exactStage, exactStagesTo, exactEntering, lineExact, linesExact, statesExact, exactRest, nearness, EachNear}
 use Rattle.tns_lattices.specs.declared.encoder.Passing.{Passing}
-use Rattle.tns_lattices.specs.declared.encoder.Passed.{Passed}
+use Rattle.tns_lattices.specs.declared.Passed.{Passed}
 
 -- ---- after k stages
 

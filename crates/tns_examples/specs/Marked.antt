@@ -8,10 +8,10 @@ use lib.Dec.{ltb, eqb}
 use lib.ListN.{length, replicate}
 use lib.Ieee.{Float, nan, neg, le, ofBits, binary32}
 use Rattle.tns_lists.specs.Every.{every}
-use Rattle.tns_tables.specs.Tables.{ofOrder, orderCost, indexCost, indexCosts}
+use Rattle.tns_tables.specs.Tables.{ofOrder, cellsFrom}
 use Rattle.tns_index.specs.Quantizer.{indexOf, notAbove, one}
 use Rattle.tns_refusals.specs.Refusals.{Verdict, accepted, refused, refusedAt, sideChecks, lowestOver}
-use Rattle.tns_cost.specs.Cost.{costOf, countedBits, filterBits, filterCost}
+use Rattle.tns_cost.specs.Cost.{costOf, countedBits, filterBits, filterCost, orderCost, indexCosts}
 use Rattle.tns_rows.specs.Durations.{kept, weightingOf}
 use Rattle.tns_rows.specs.declared.duration.Duration.{Duration}
 use Rattle.tns_rows.specs.declared.duration.Duration.the-variants.{Ten, SevenPointFive}
@@ -58,5 +58,5 @@ right (weighs duration nbits weighting) = eqb (weightingOf (kept duration) nbits
 right (quantizes x index) = eqb (indexOf x) index
 
 pub marked-cases-hold : every right marked ≡ true
-unfolding marked right accepts padded costOf sideChecks lowestOver countedBits filterBits filterCost orderCost ofOrder indexCosts indexCost weightingOf indexOf notAbove le neg ofBits
+unfolding marked right accepts padded costOf sideChecks lowestOver countedBits filterBits filterCost orderCost ofOrder indexCosts cellsFrom weightingOf indexOf notAbove le neg ofBits
 marked-cases-hold = refl

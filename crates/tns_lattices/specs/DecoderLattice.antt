@@ -5,7 +5,7 @@ use Prim.Native.Nat.{ℕ, zero, suc}
 use lib.ListN.{getD, set}
 use lib.Ieee.{Float, nan, add, sub, mul, binary32}
 use Rattle.tns_lists.specs.Lines.{linesThrough, stateThrough}
-use Rattle.tns_lattices.specs.declared.decoder.Passed.{Passed}
+use Rattle.tns_lattices.specs.declared.Passed.{Passed}
 
 -- a line on its way, t, with the states as they are
 abbrev pub passing : Float → List Float → Passed

@@ -6,7 +6,7 @@ use lib.ListN.{getD, set}
 use lib.Ieee.{Float, nan, add, mul, binary32}
 use Rattle.tns_lists.specs.Lines.{linesThrough, stateThrough}
 use Rattle.tns_lattices.specs.declared.encoder.Passing.{Passing}
-use Rattle.tns_lattices.specs.declared.encoder.Passed.{Passed}
+use Rattle.tns_lattices.specs.declared.Passed.{Passed}
 
 -- new b = q·t + state, then t = t + q·state (old state); the state takes the old b
 unfoldable pub stage : Float → ℕ → Passing → Passing

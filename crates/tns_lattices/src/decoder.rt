@@ -1,14 +1,9 @@
 // The decoder's lattice in D's order of operations: each product, sum and difference rounds once and
 // none is fused. The states go in and come back by value. Assumes nothing.
+use crate::Passed;
 ghost use mathlib.Core.Path.{_≡_};
 ghost use Prim.Native.Nat.{_<_, _≤_, min};
 ghost use Rattle.tns_lattices.specs.DecoderLattice.{stage, stagesBelow, passing, lineDecoded, linesDecoded, statesAfter};
-
-// A line on its way through the stages, with the states as they are.
-pub struct Passed {
-    pub t: f32,
-    pub states: [f32; 8],
-}
 
 // One line through a filter of order 1 to 8.
 fn line_decoded(q: [f32; 8], order: usize, states: [f32; 8], line: f32) -> Passed

@@ -1,5 +1,6 @@
 // The encoder's lattice in E's order of operations: each product and sum rounds once and none is
 // fused. The states go in and come back by value. Assumes nothing.
+use crate::Passed;
 ghost use mathlib.Core.Path.{_≡_};
 ghost use Prim.Native.Nat.{_<_, _≤_, min};
 ghost use Rattle.tns_lattices.specs.EncoderLattice.{stage, stagesTo, entering, lineEncoded, linesEncoded, statesAfter};
@@ -8,12 +9,6 @@ ghost use Rattle.tns_lattices.specs.EncoderLattice.{stage, stagesTo, ent
 pub struct Passing {
     pub t: f32,
     pub b: f32,
-    pub states: [f32; 8],
-}
-
-// A line that has passed, with the states after it.
-pub struct Passed {
-    pub t: f32,
     pub states: [f32; 8],
 }
 

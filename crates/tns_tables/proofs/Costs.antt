@@ -9,7 +9,7 @@ use borrow.Author.Tests.{leb-true}
 use lib.ListN.{length, getD}
 use Rattle.tns_lists.specs.Every.{every}
 use Rattle.tns_lists.proofs.Every.{and-left, and-right, every-at}
-use Rattle.tns_tables.specs.Tables.{cell, ofOrder, orderBits, coefBits, orderCost, indexCost, indexCosts}
+use Rattle.tns_tables.specs.Tables.{cell, ofOrder, orderBits, coefBits, cellsFrom}
 use Rattle.tns_tables.specs.Rules.{affordable, withinFrom, order-costs-affordable, index-costs-affordable, order-costs-within}
 
 -- no number of an affordable table is above 20480
@@ -18,19 +18,15 @@ unfolding affordable
 affordable-at table all row column =
     leb-true _ _ (every-at (λ cost. leb cost 20480) (getD table row []) (every-at affordable table all [] refl row) 0 refl column)
 
-pub order-cost-affordable : (weighting order : ℕ) → orderCost weighting order ≤ 20480
-unfolding orderCost ofOrder
+pub order-cost-affordable : (weighting order : ℕ) → ofOrder orderBits weighting order ≤ 20480
+unfolding ofOrder
 order-cost-affordable weighting zero = omega arith
 order-cost-affordable weighting (suc column) = affordable-at orderBits order-costs-affordable weighting column
 
-index-cost-affordable : (place index : ℕ) → indexCost place index ≤ 20480
-unfolding indexCost
-index-cost-affordable place index = affordable-at coefBits index-costs-affordable place index
-
-pub index-costs-at-most : (place : ℕ) (indices : List ℕ) → indexCosts place indices ≤ 20480 * length indices
-unfolding indexCosts
+pub index-costs-at-most : (place : ℕ) (indices : List ℕ) → cellsFrom coefBits place indices ≤ 20480 * length indices
+unfolding cellsFrom
 index-costs-at-most place [] = omega arith
-index-costs-at-most place (i ∷ is) = omega (arith, index-cost-affordable place i, index-costs-at-most (suc place) is)
+index-costs-at-most place (i ∷ is) = omega (arith, affordable-at coefBits index-costs-affordable place i, index-costs-at-most (suc place) is)
 
 within-at : (order : ℕ) (row : List ℕ) → withinFrom order row ≡ true → (column : ℕ) → order + column ≤ 8 → getD row column 0 + 20480 * (order + column) ≤ 83 * 2048
 unfolding withinFrom
@@ -41,8 +37,8 @@ within-at order (cost ∷ costs) w (suc column) h =
     omega (arith, within-at (suc order) costs (and-right (leb (cost + 20480 * order) (83 * 2048)) (withinFrom (suc order) costs) w) column (omega arith))
 
 -- an order and its indices cost at most 83 whole bits
-pub order-cost-at-most : (weighting order : ℕ) → order ≤ 8 → orderCost weighting order + 20480 * order ≤ 83 * 2048
-unfolding orderCost ofOrder withinFrom
+pub order-cost-at-most : (weighting order : ℕ) → order ≤ 8 → ofOrder orderBits weighting order + 20480 * order ≤ 83 * 2048
+unfolding ofOrder withinFrom
 order-cost-at-most weighting zero h = omega arith
 order-cost-at-most weighting (suc column) h =
     omega (arith, within-at 1 (getD orderBits weighting []) (every-at (withinFrom 1) orderBits order-costs-within [] refl weighting) column (omega arith))

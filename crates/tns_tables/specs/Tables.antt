@@ -80,14 +80,7 @@ coefCumfreq =
     (0 ∷ 1 ∷ 2 ∷ 3 ∷ 4 ∷ 5 ∷ 6 ∷ 11 ∷ 308 ∷ 309 ∷ 991 ∷ 1017 ∷ 1019 ∷ 1020 ∷ 1021 ∷ 1022 ∷ 1023 ∷ []) ∷
     []
 
--- what an order costs, and what an index costs at its place, in 2048ths of a bit
-unfoldable pub orderCost : ℕ → ℕ → ℕ
-orderCost weighting order = ofOrder orderBits weighting order
-
-unfoldable pub indexCost : ℕ → ℕ → ℕ
-indexCost place index = cell coefBits place index
-
--- the cost of some indices, the first of which stands at a place
-unfoldable pub indexCosts : ℕ → List ℕ → ℕ
-indexCosts place [] = 0
-indexCosts place (index ∷ indices) = indexCost place index + indexCosts (suc place) indices
+-- the numbers of a table at some columns, in the rows from one on, added up
+unfoldable pub cellsFrom : List (List ℕ) → ℕ → List ℕ → ℕ
+cellsFrom table row [] = 0
+cellsFrom table row (column ∷ columns) = cell table row column + cellsFrom table (suc row) columns

@@ -5,7 +5,7 @@ ghost use mathlib.Core.Path.{_≡_};
 ghost use mathlib.Core.Bool.{true};
 ghost use Prim.Native.Nat.{min};
 ghost use lib.ListN.{length, take};
-ghost use Rattle.tns_tables.specs.Tables.{cell, wide, ofOrder, orderBits, orderFreq, orderCumfreq, coefBits, coefFreq, coefCumfreq, indexCosts};
+ghost use Rattle.tns_tables.specs.Tables.{cell, wide, ofOrder, orderBits, orderFreq, orderCumfreq, coefBits, coefFreq, coefCumfreq, cellsFrom};
 
 const AC_TNS_ORDER_BITS: [[u16; 8]; 2] = [
     [17234, 13988, 11216, 8694, 6566, 4977, 3961, 3040],
@@ -486,16 +486,23 @@ fn widened(x: u16) -> u32
     x as u32
 }
 
-// What the indices below an order cost together, each at its place. The table is bound once: read
-// anew at each place it would be written out each time.
-pub fn coef_bits_below(order: u8, indices: &[u8]) -> u32
-    ensures { λ r. ⌜ r ≡ indexCosts 0 (take order (now (indices .entry))) ⌝ }
+// The numbers of a table at the indices below an order, each at its place, added up.
+fn sum_below(table: &[[u16; 17]; 8], order: u8, indices: &[u8]) -> u32
+    requires { ⌜ (length (now table) ≡ 8) × (wide 17 (now table) ≡ true) ⌝ }
+    ensures { λ r. ⌜ r ≡ cellsFrom (now (table .entry)) 0 (take order (now (indices .entry))) ⌝ }
 {
-    let mut cost = 0u32;
+    let mut sum = 0u32;
     let count = least(order as usize, indices.len());
-    let table = AC_TNS_COEF_BITS;
     for place in 0..count {
-        cost += widened(of_coefficient(&table, place as u8, indices[place]));
+        sum += widened(of_coefficient(table, place as u8, indices[place]));
     }
-    cost
+    sum
+}
+
+// What the indices below an order cost together. The table is named once: read anew at each place it
+// would be written out each time.
+pub fn coef_bits_below(order: u8, indices: &[u8]) -> u32
+    ensures { λ r. ⌜ r ≡ cellsFrom coefBits 0 (take order (now (indices .entry))) ⌝ }
+{
+    sum_below(&AC_TNS_COEF_BITS, order, indices)
 }

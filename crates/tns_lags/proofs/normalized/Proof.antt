@@ -10,10 +10,13 @@ use lib.ListN.{length, length-set}
 use Rattle.tns_rounding.specs.Floats.{_⊗_}
 use Rattle.tns_lists.specs.Places.{at}
 use Rattle.tns_lags.specs.Autocorrelation.{lagWindow}
-use Rattle.tns_lags.specs.Steps.{lagCell}
+use Rattle.tns_lags.specs.Steps.{plainCell, lagCell}
 use Rattle.tns_lists.proofs.Tab.{is-tab, filled-more}
 use Rattle.tns_lags.proofs.normalized.Statement.{statement}
 use Rattle.tns_lags.proofs.normalized.Tie as tie
+
+windowed : (x y : Float) (k : ℕ) → x ≡ y → x ⊗ at lagWindow k ≡ y ⊗ at lagWindow k
+windowed x y k e = rw e
 
 abbrev Inv-loop : tie.InvT-loop
 Inv-loop silent a b c lags₀ k₀ lags k = (k ≤ 9) × (length lags ≡ 9) × ((j : ℕ) → j < k → at lags j ≡ lagCell silent a b c j)
@@ -52,7 +55,7 @@ loop-again c =
       omega arith,
       simp length-set (l .inv .1),
       filled-more (lagCell (g .silent) (g .a) (g .b) (g .c)) (l .lags) (l .k) (c .plain-lag .result ⊗ at lagWindow (l .k)) (omega arith)
-          (ap (λ (x : Float). x ⊗ at lagWindow (l .k)) (c .plain-lag .ensures)) (l .inv .2),
+          (windowed (c .plain-lag .result) (plainCell (g .silent) (g .a) (g .b) (g .c) (l .k)) (l .k) (c .plain-lag .ensures)) (l .inv .2),
     )
 
 returns : tie.Need-returns Inv-loop μ-loop

@@ -6,19 +6,19 @@ use Prim.Native.Nat.{ℕ, _+_}
 use native.Mathlib.Omega.{arith}
 use borrow.Author.Needs.{needs}
 use lib.ListN.{take, length-take}
-use Rattle.tns_tables.specs.Tables.{ofOrder, orderBits, orderCost, indexCosts}
+use Rattle.tns_tables.specs.Tables.{ofOrder, orderBits, coefBits, cellsFrom}
 use Rattle.tns_tables.proofs.Costs.{index-costs-at-most}
-use Rattle.tns_cost.specs.Cost.{filterCost}
+use Rattle.tns_cost.specs.Cost.{orderCost, indexCosts, filterCost}
 use Rattle.tns_cost.proofs.budget.filter_cost.Statement.{statement}
 use Rattle.tns_cost.proofs.budget.filter_cost.Tie as tie
 
 -- order 0 costs nothing
 free : (weighting : ℕ) (is : List ℕ) → 0 ≡ filterCost weighting 0 is
-unfolding filterCost orderCost ofOrder indexCosts
+unfolding filterCost orderCost ofOrder indexCosts cellsFrom
 free weighting is = refl
 
-parts : (weighting order : ℕ) (is : List ℕ) → filterCost weighting order is ≡ ofOrder orderBits weighting order + indexCosts 0 (take order is)
-unfolding filterCost orderCost
+parts : (weighting order : ℕ) (is : List ℕ) → filterCost weighting order is ≡ ofOrder orderBits weighting order + cellsFrom coefBits 0 (take order is)
+unfolding filterCost orderCost indexCosts
 parts weighting order is = refl
 
 returns : tie.Need-returns

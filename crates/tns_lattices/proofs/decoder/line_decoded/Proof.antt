@@ -10,7 +10,7 @@ use native.Mathlib.Omega.{arith}
 use lib.Ieee.{Float, nan, add, sub, mul, binary32}
 use lib.ListN.{getD, set}
 use Rattle.tns_lattices.specs.DecoderLattice.{stage, stagesBelow, passing, lineDecoded}
-use Rattle.tns_lattices.specs.declared.decoder.Passed.{Passed}
+use Rattle.tns_lattices.specs.declared.Passed.{Passed}
 use Rattle.tns_lattices.proofs.decoder.line_decoded.Statement.{statement}
 use Rattle.tns_lattices.proofs.decoder.line_decoded.Tie as tie
 

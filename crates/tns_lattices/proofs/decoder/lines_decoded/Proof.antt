@@ -10,7 +10,7 @@ use lib.Ieee.{Float, nan}
 use lib.ListN.{length, take, drop, getD, set, length-set}
 use Rattle.tns_lists.proofs.InPlace.{one-more, state-more, none-left, state-left}
 use Rattle.tns_lattices.specs.DecoderLattice.{lineDecoded, linesDecoded, statesAfter}
-use Rattle.tns_lattices.specs.declared.decoder.Passed.{Passed}
+use Rattle.tns_lattices.specs.declared.Passed.{Passed}
 use Rattle.tns_lattices.proofs.decoder.lines_decoded.Statement.{statement}
 use Rattle.tns_lattices.proofs.decoder.lines_decoded.Tie as tie
 

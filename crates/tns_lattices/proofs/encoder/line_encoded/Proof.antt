@@ -11,7 +11,7 @@ use lib.Ieee.{Float, nan, add, mul, binary32}
 use lib.ListN.{getD, set}
 use Rattle.tns_lattices.specs.EncoderLattice.{stagesTo, entering, lineEncoded}
 use Rattle.tns_lattices.specs.declared.encoder.Passing.{Passing}
-use Rattle.tns_lattices.specs.declared.encoder.Passed.{Passed}
+use Rattle.tns_lattices.specs.declared.Passed.{Passed}
 use Rattle.tns_lattices.proofs.encoder.line_encoded.Statement.{statement}
 use Rattle.tns_lattices.proofs.encoder.line_encoded.Tie as tie
 

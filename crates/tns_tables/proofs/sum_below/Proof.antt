@@ -1,0 +1,97 @@
+-- `tns_tables::sum_below` meets its contract. The invariant: the sum so far, with what is still to come, is the whole.
+-- Assumes nothing.
+use mathlib.Core.Path.{_≡_, refl, sym, _∙_, ap}
+use mathlib.Core.List.{List}
+use Prim.Native.Nat.{ℕ, suc, _+_, _-_, _*_, _<_, _≤_, min}
+use native.Mathlib.Numerals.{add-one}
+use native.Mathlib.Omega.{arith}
+use borrow.Author.Needs.{needs}
+use lib.ListN.{length, getD, drop, take, length-take, drop-of-length-le}
+use lib.Seq.{drop-cons, getD-take}
+use Rattle.tns_tables.specs.Tables.{cell, cellsFrom}
+use Rattle.tns_tables.proofs.sum_below.Statement.{statement}
+use Rattle.tns_tables.proofs.sum_below.Tie as tie
+
+module _ (table : List (List ℕ)) (order : ℕ) (is : List ℕ) (k : ℕ) where
+  -- the index at a place below the order, and those after it
+  step : k < order → k < length is
+      → cellsFrom table k (drop k (take order is)) ≡ cell table k (getD is k 0) + cellsFrom table (k + 1) (drop (k + 1) (take order is))
+  unfolding cellsFrom
+  step below within =
+      let inside : k < length (take order is) = simp length-take (omega arith) in
+      rw (add-one, drop-cons (take order is) k 0 inside, getD-take order is k 0 below)
+
+  -- none is left
+  end : min order (length is) ≤ k → cellsFrom table k (drop k (take order is)) ≡ 0
+  unfolding cellsFrom
+  end h =
+      let past : length (take order is) ≤ k = simp length-take (omega arith) in
+      rw (drop-of-length-le (take order is) past)
+
+abbrev Inv-loop : tie.InvT-loop
+Inv-loop table order indices sum₀ count place₀ sum place =
+    (place ≤ count) × (sum ≤ 65535 * place) × (sum + cellsFrom table place (drop place (take order indices)) ≡ cellsFrom table 0 (take order indices))
+
+abbrev μ-loop : tie.MeasureT-loop
+μ-loop table order indices sum₀ count place₀ sum place = count - place
+
+least-requires : tie.Need-least-requires Inv-loop μ-loop
+least-requires c κs = search needs
+
+loop-holds : tie.Need-loop-holds Inv-loop μ-loop
+loop-holds c = (omega arith, omega arith, omega arith)
+
+cast-of-coefficient : tie.Need-cast-of-coefficient Inv-loop μ-loop
+cast-of-coefficient c = omega arith
+
+shared-slice-read-of-coefficient : tie.Need-shared-slice-read-of-coefficient Inv-loop μ-loop
+shared-slice-read-of-coefficient c = omega arith
+
+of-coefficient-requires : tie.Need-of-coefficient-requires Inv-loop μ-loop
+of-coefficient-requires c κs = search needs
+
+widened-requires : tie.Need-widened-requires Inv-loop μ-loop
+widened-requires c κs = search needs
+
+add-sum : tie.Need-add-sum Inv-loop μ-loop
+add-sum c = omega arith
+
+add-place : tie.Need-add-place Inv-loop μ-loop
+add-place c = omega arith
+
+loop-less : tie.Need-loop-less Inv-loop μ-loop
+loop-less c = omega arith
+
+loop-again : tie.Need-loop-again Inv-loop μ-loop
+loop-again c =
+    let l = c .before .before .before .before .loop in
+    let g = c .before .before .before .before .before .before .before .args in
+    let next : c .widened .result ≡ cell (g .table .now) (l .place) (getD (g .indices .now) (l .place) 0) = c .widened .ensures ∙ c .before .of-coefficient .ensures in (
+      omega arith,
+      omega (arith, c .before .of-coefficient .ok),
+      omega (arith, next, l .inv .2, step (g .table .now) (g .order) (g .indices .now) (l .place) (omega arith) (omega arith)),
+    )
+
+returns : tie.Need-returns Inv-loop μ-loop
+returns c =
+    let l = c .before .loop in
+    let g = c .before .before .before .before .args in
+    omega (arith, l .inv .2, end (g .table .now) (g .order) (g .indices .now) (l .place) (omega arith))
+
+pub sum-below-spec : {M : Type 1} → statement M
+sum-below-spec =
+    tie.close
+    (tie.spec
+    Inv-loop
+    μ-loop
+    least-requires
+    loop-holds
+    cast-of-coefficient
+    shared-slice-read-of-coefficient
+    of-coefficient-requires
+    widened-requires
+    add-sum
+    add-place
+    loop-less
+    loop-again
+    returns)
