@@ -17,7 +17,8 @@ use Rattle.tns_rows.specs.Durations.{kept, durationOf}
 use Rattle.tns_frames.specs.Frames.{frameChecks}
 use Rattle.tns_rows.specs.Bands.{rowOf, lastStop}
 use Rattle.tns_decode.specs.Decoder.{decodeChecks}
-use Rattle.tns_encode.specs.Encoder.{encodeVerdict, bitsIn, sideOf, weightingIn}
+use Rattle.tns_encode.specs.Encoder.{encodeVerdict, bitsIn, weightingIn}
+use Rattle.tns_analysis.specs.FrameSide.{sideOf}
 use Rattle.tns.proofs.Sides.{bits-place}
 
 -- the lowest place over a limit is one of the list's

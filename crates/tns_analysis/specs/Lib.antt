@@ -1,2 +1,3 @@
--- What a reader has to believe of the analysis of one filter, over its three steps.
+-- What a reader has to believe of the analysis: one filter, over its three steps, and a frame.
 pub mod Analysis
+pub mod FrameSide

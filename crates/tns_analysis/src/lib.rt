@@ -1,5 +1,10 @@
-// The analysis of one filter: from the lines of a band to the record of gain, damping and on/off, and
-// to eight reflection coefficients. Everything in E's order of float operations. Assumes nothing.
+// The analysis. Here that of one filter: from the lines of a band to the record of gain, damping and
+// on/off, and to eight reflection coefficients, everything in E's order of float operations. In
+// `frame` that of a frame, to its side data. Assumes nothing.
+mod frame;
+
+pub use frame::Found;
+pub use frame::analyse_frame;
 use tns_lags::autocorrelated;
 use tns_recursion::FilterGain;
 use tns_recursion::gain_record;

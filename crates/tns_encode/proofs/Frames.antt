@@ -25,7 +25,8 @@ use Rattle.tns_frames.specs.Frames.{frameChecks, frameOf}
 use Rattle.tns_frames.proofs.Frames.{frames-settle, sound-frame}
 use Rattle.tns_side.specs.Side.{bitsOf, noSide}
 use Rattle.tns_side.specs.declared.SideData.{SideData}
-use Rattle.tns_encode.specs.Encoder.{sideOf, rowEncoded, weightingIn, encodeVerdict, bitsIn, sideIn, unlessRefused, spectrumEncoded}
+use Rattle.tns_analysis.specs.FrameSide.{sideOf}
+use Rattle.tns_encode.specs.Encoder.{rowEncoded, weightingIn, encodeVerdict, bitsIn, sideIn, unlessRefused, spectrumEncoded}
 
 -- ---- cuts
 

@@ -1,5 +1,4 @@
 -- The laws that belong to no one function.
-pub mod Limits
 pub mod Frames
 pub mod Outside
 pub mod Reported

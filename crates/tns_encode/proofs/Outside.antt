@@ -25,7 +25,8 @@ use Rattle.tns_lattices.specs.States.{atRest}
 use Rattle.tns_lattices.specs.EncoderLattice.{linesEncoded, statesAfter}
 use Rattle.tns_lattices.proofs.TwoBands.{two-length, two-outside, first-inside, second-inside}
 use Rattle.tns_side.specs.declared.SideData.{SideData}
-use Rattle.tns_encode.specs.Encoder.{hasSecond, filterOf, secondOf, sideOf, filteredBy, rowEncoded, weightingIn, encodeVerdict, unlessRefused, spectrumEncoded}
+use Rattle.tns_analysis.specs.FrameSide.{hasSecond, filterOf, secondOf, sideOf}
+use Rattle.tns_encode.specs.Encoder.{filteredBy, rowEncoded, weightingIn, encodeVerdict, unlessRefused, spectrumEncoded}
 use Rattle.tns_encode.proofs.Frames.{CutWithin, BandsCut, cut-row}
 
 -- ---- the analysis of a band depends on its own lines alone

@@ -19,11 +19,12 @@ use Rattle.tns_rows.specs.declared.row.Band.{Band}
 use Rattle.tns_rows.specs.declared.row.Row.{Row}
 use Rattle.tns_analysis.specs.Analysis.{reflectionsOf}
 use Rattle.tns_side.specs.Quantized.{quantizedOf, absent}
-use Rattle.tns_encode.specs.Encoder.{hasSecond, filterOf, secondOf, sideOf, weightingIn}
+use Rattle.tns_analysis.specs.FrameSide.{hasSecond, filterOf, secondOf, sideOf}
+use Rattle.tns_encode.specs.Encoder.{weightingIn}
 use Rattle.tns_side.specs.Side.{ordersIn, indicesIn, bitsOf}
 use Rattle.tns_side.specs.Limits.{Within8}
 use Rattle.tns_side.specs.declared.Quantized.{Quantized}
-use Rattle.tns_encode.proofs.Limits.{filter-within, second-within}
+use Rattle.tns_analysis.proofs.Limits.{filter-within, second-within}
 
 -- ---- numbers within a limit
 

@@ -1,3 +1,2 @@
 -- What a reader has to believe of the encode call.
 pub mod Encoder
-pub mod Steps

@@ -1,7 +1,6 @@
-// The encode call: it checks a frame, analyses its bands, quantizes what it finds, and filters the
-// bands in the caller's own spectrum. Assumes nothing.
-use tns_analysis::analyse;
-use tns_cost::filter_bits;
+// The encode call: it checks a frame, has it analysed, and filters its bands in the caller's own
+// spectrum. Assumes nothing.
+use tns_analysis::analyse_frame;
 use tns_frames::FrameAnswer;
 use tns_frames::check_frame;
 use tns_lattices::band_encoded;
@@ -12,8 +11,6 @@ use tns_rows::duration_of;
 use tns_rows::lpc_weighting;
 use tns_side::Quantized;
 use tns_side::SideData;
-use tns_side::none;
-use tns_side::quantize_all;
 ghost use mathlib.Core.Path.{_≡_};
 ghost use Prim.Native.Nat.{_≤_};
 ghost use lib.ListN.{length};
@@ -24,8 +21,9 @@ ghost use Rattle.tns_rows.proofs.Bands.{Fits, SoundRow};
 ghost use Rattle.tns_lattices.specs.EncoderLattice.{linesEncoded, statesAfter};
 ghost use Rattle.tns_side.specs.Side.{bitsOf, noFilter, noSide};
 ghost use Rattle.tns_exact.specs.Exact.{IfAccepted, NearExact};
-ghost use Rattle.tns_encode.specs.Encoder.{countOf, filterOf, secondOf, sideOf, filteredBy, rowEncoded, encodeVerdict, bitsIn, sideIn, encodeSays, spectrumEncoded};
-ghost use Rattle.tns_encode.specs.Steps.{Reported};
+ghost use Rattle.tns_analysis.specs.FrameSide.{sideOf};
+ghost use Rattle.tns_encode.specs.Encoder.{filteredBy, rowEncoded, encodeVerdict, bitsIn, sideIn, encodeSays, spectrumEncoded};
+ghost use Rattle.tns_side.specs.Limits.{Reported};
 
 // The answer of `encode`: the bits of the side data, or why there are none.
 pub enum EncodeAnswer {
@@ -37,65 +35,6 @@ pub enum EncodeAnswer {
 pub struct Encoded {
     pub answer: EncodeAnswer,
     pub side: SideData,
-}
-
-// The filter of a band.
-fn filter_of(lines: &[f32], band: Band, flag: bool, weighting: u8) -> Quantized
-    ensures { λ r. ⌜ r ≡ filterOf band (now (lines .entry)) flag weighting ⌝ }
-{
-    let found = analyse(lines, band, flag, weighting);
-    if found.gain.on {
-        let reflections = found.reflections;
-        return quantize_all(reflections);
-    }
-    none()
-}
-
-// The filter of the second band, or of none.
-fn second_of(lines: &[f32], row: Row, flag: bool, weighting: u8) -> Quantized
-    ensures { λ r. ⌜ r ≡ secondOf row (now (lines .entry)) flag weighting ⌝ }
-{
-    if row.second.stop == 0 {
-        return none();
-    }
-    filter_of(lines, row.second, flag, weighting)
-}
-
-fn count_of(row: Row) -> u8
-    ensures { λ r. ⌜ r ≡ countOf row ⌝ }
-{
-    if row.second.stop == 0 { 1 } else { 2 }
-}
-
-// The side data of a frame: a filter for each band of its row.
-fn side_of(lines: &[f32], row: Row, flag: bool, weighting: u8) -> SideData
-    ensures { λ r. ⌜ r ≡ sideOf row (now (lines .entry)) flag weighting ⌝ }
-{
-    let first = filter_of(lines, row.first, flag, weighting);
-    let second = second_of(lines, row, flag, weighting);
-    let filters = count_of(row);
-    SideData {
-        weighting,
-        filters,
-        first,
-        second,
-    }
-}
-
-// The bits of one filter or of two, each rounded up by itself.
-fn side_bits(side: SideData) -> u16
-    requires { ⌜ Reported side ⌝ }
-    ensures { λ r. ⌜ r ≡ bitsOf side ⌝ }
-{
-    let first = side.first;
-    let i = first.indices;
-    let bits = filter_bits(side.weighting, first.order, &i);
-    if side.filters == 1 {
-        return bits;
-    }
-    let second = side.second;
-    let j = second.indices;
-    bits + filter_bits(side.weighting, second.order, &j)
 }
 
 // One filter, in its band of the whole spectrum. It answers the states after it.
@@ -140,11 +79,11 @@ fn row_encoded(row: Row, flag: bool, weighting: u8, lines: &mut [f32]) -> Encode
     ensures { λ r. ⌜ r .side ≡ sideOf row (now (lines .entry)) flag weighting ⌝ }
     ensures { λ _. ⌜ now (lines .exit) ≡ rowEncoded row (now (lines .entry)) flag weighting ⌝ }
 {
-    let side = side_of(lines, row, flag, weighting);
-    let bits = side_bits(side);
+    let found = analyse_frame(lines, row, flag, weighting);
+    let side = found.side;
     two_encoded(row, side, lines);
     Encoded {
-        answer: EncodeAnswer::Bits(bits),
+        answer: EncodeAnswer::Bits(found.bits),
         side,
     }
 }

@@ -24,7 +24,8 @@ use Rattle.tns_reflections.specs.Reflections.{powerFrom, power, damped, rowBelo
 use Rattle.tns_analysis.specs.Analysis.{recordOf, reflectionsOf}
 use Rattle.tns_side.specs.Quantized.{quantizedOf, absent}
 use Rattle.tns_lattices.specs.EncoderLattice.{stage, stagesTo, lineEncoded, linesEncoded, statesAfter}
-use Rattle.tns_encode.specs.Encoder.{filterOf, secondOf, sideOf, filteredBy, rowEncoded, encodeVerdict, spectrumEncoded, sideIn}
+use Rattle.tns_analysis.specs.FrameSide.{filterOf, secondOf, sideOf}
+use Rattle.tns_encode.specs.Encoder.{filteredBy, rowEncoded, encodeVerdict, spectrumEncoded, sideIn}
 use Rattle.tns_lattices.specs.TwoBands.{twoEncoded}
 use Rattle.tns_exact.specs.Exact.{exactStage, exactStagesTo, lineExact, linesExact, statesExact, firstExact, exactCarried, secondExact}
 use Rattle.tns_side.specs.Side.{ordersIn, coefficientsIn}

@@ -17,7 +17,8 @@ use Rattle.tns_rows.specs.declared.duration.Duration.{Duration}
 use Rattle.tns_rows.specs.declared.row.Row.{Row}
 use Rattle.tns_rows.proofs.Bands.{SoundRow}
 use Rattle.tns_frames.proofs.Frames.{sound-row}
-use Rattle.tns_encode.specs.Encoder.{sideOf, rowEncoded, weightingIn, encodeSays}
+use Rattle.tns_analysis.specs.FrameSide.{sideOf}
+use Rattle.tns_encode.specs.Encoder.{rowEncoded, weightingIn, encodeSays}
 use Rattle.tns_side.specs.Side.{bitsOf}
 use Rattle.tns_exact.specs.Exact.{IfAccepted, NearExact}
 use Rattle.tns_side.specs.declared.SideData.{SideData}

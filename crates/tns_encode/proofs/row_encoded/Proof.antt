@@ -8,33 +8,28 @@ use borrow.Author.Needs.{needs}
 use lib.Ieee.{Float}
 use Rattle.tns_refusals.specs.Refusals.{accepted}
 use Rattle.tns_rows.specs.declared.row.Row.{Row}
-use Rattle.tns_side.specs.Side.{bitsOf}
 use Rattle.tns_side.specs.declared.SideData.{SideData}
-use Rattle.tns_encode.specs.Encoder.{sideOf, filteredBy, rowEncoded}
-use Rattle.tns_encode.specs.Steps.{Reported}
-use Rattle.tns_encode.proofs.Limits.{side-reported}
+use Rattle.tns_analysis.specs.FrameSide.{sideOf}
+use Rattle.tns_encode.specs.Encoder.{filteredBy, rowEncoded}
+use Rattle.tns_side.specs.Limits.{Reported}
+use Rattle.tns_analysis.proofs.Limits.{side-reported}
 use Rattle.tns_encode.proofs.row_encoded.Statement.{statement}
 use Rattle.tns_encode.proofs.row_encoded.Tie as tie
-
--- the side data that were found are within the limits
-reported : (c : tie.After-side-of) → Reported (c .side-of .result)
-reported c =
-    let g = c .before .before .before .args in
-    subst Reported (sym (c .side-of .ensures)) (side-reported (g .row) (g .lines .now) (g .flag) (g .weighting))
 
 module _ (row : Row) (lines : List Float) (flag : Bool) (weighting : ℕ) (side : SideData) (e : side ≡ sideOf row lines flag weighting) where
   lines-are : filteredBy side row lines ≡ rowEncoded row lines flag weighting
   unfolding rowEncoded
   lines-are = rw e
 
-side-of-requires : tie.Need-side-of-requires
-side-of-requires c κs = search needs
-
-side-bits-requires : tie.Need-side-bits-requires
-side-bits-requires c κs = reported c
+analyse-frame-requires : tie.Need-analyse-frame-requires
+analyse-frame-requires c κs = search needs
 
 two-encoded-requires : tie.Need-two-encoded-requires
-two-encoded-requires c κs = (c .before .before .before .before .before .pre, reported (c .before .before))
+two-encoded-requires c κs =
+    let found = c .before .before in
+    let start = found .before .before .before in
+    let g = start .args in
+    (start .pre, subst Reported (sym (found .analyse-frame .ensures .0)) (side-reported (g .row) (g .lines .now) (g .flag) (g .weighting)))
 
 same-length : tie.Need-same-length
 same-length c = search needs
@@ -42,15 +37,12 @@ same-length c = search needs
 returns : tie.Need-returns
 returns c =
     let filtering = c .before .before in
-    let costed = filtering .before .before in
-    let found = costed .before in
+    let found = filtering .before .before .before in
     let g = found .before .before .before .args in
-    let e = found .side-of .ensures in (
-      ap accepted (costed .side-bits .ensures ∙ ap bitsOf e),
-      (e, filtering .two-encoded .ensures ∙ lines-are (g .row) (g .lines .now) (g .flag) (g .weighting) (found .side-of .result) e),
+    let e = found .analyse-frame .ensures .0 in (
+      ap accepted (found .analyse-frame .ensures .1),
+      (e, filtering .two-encoded .ensures ∙ lines-are (g .row) (g .lines .now) (g .flag) (g .weighting) (found .analyse-frame .result .side) e),
     )
 
 pub row-encoded-spec : {M : Type 1} → statement M
-row-encoded-spec =
-    tie.close
-    (tie.spec side-of-requires side-bits-requires two-encoded-requires same-length returns)
+row-encoded-spec = tie.close (tie.spec analyse-frame-requires two-encoded-requires same-length returns)

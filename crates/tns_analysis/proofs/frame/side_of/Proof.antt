@@ -1,4 +1,4 @@
--- `tns_encode::side_of` meets its contract: the parts are the definition's.
+-- `tns_analysis::frame::side_of` meets its contract: the parts are the definition's.
 -- Assumes nothing.
 use mathlib.Core.Path.{_≡_, refl}
 use mathlib.Core.Bool.{Bool}
@@ -9,9 +9,9 @@ use lib.Ieee.{Float}
 use Rattle.tns_rows.specs.declared.row.Row.{Row}
 use Rattle.tns_side.specs.declared.Quantized.{Quantized}
 use Rattle.tns_side.specs.declared.SideData.{SideData}
-use Rattle.tns_encode.specs.Encoder.{countOf, filterOf, secondOf, sideOf}
-use Rattle.tns_encode.proofs.side_of.Statement.{statement}
-use Rattle.tns_encode.proofs.side_of.Tie as tie
+use Rattle.tns_analysis.specs.FrameSide.{countOf, filterOf, secondOf, sideOf}
+use Rattle.tns_analysis.proofs.frame.side_of.Statement.{statement}
+use Rattle.tns_analysis.proofs.frame.side_of.Tie as tie
 
 parts : (row : Row) (lines : List Float) (flag : Bool) (weighting filters : ℕ) (a b : Quantized) → a ≡ filterOf (row .first) lines flag weighting
     → b ≡ secondOf row lines flag weighting → filters ≡ countOf row

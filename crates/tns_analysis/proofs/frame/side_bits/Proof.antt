@@ -1,4 +1,4 @@
--- `tns_encode::side_bits` meets its contract: each filter is rounded up by itself.
+-- `tns_analysis::frame::side_bits` meets its contract: each filter is rounded up by itself.
 -- Assumes nothing.
 use mathlib.Core.Path.{_≡_, refl, sym, _∙_, ap}
 use mathlib.Core.List.{List, [], _∷_, _++_}
@@ -11,9 +11,9 @@ use Rattle.tns_cost.specs.Cost.{countedBits, filterBits}
 use Rattle.tns_cost.proofs.Costs.{one-counted, two-counted}
 use Rattle.tns_side.specs.Side.{bitsOf}
 use Rattle.tns_side.specs.declared.SideData.{SideData}
-use Rattle.tns_encode.specs.Steps.{Reported}
-use Rattle.tns_encode.proofs.side_bits.Statement.{statement}
-use Rattle.tns_encode.proofs.side_bits.Tie as tie
+use Rattle.tns_side.specs.Limits.{Reported}
+use Rattle.tns_analysis.proofs.frame.side_bits.Statement.{statement}
+use Rattle.tns_analysis.proofs.frame.side_bits.Tie as tie
 
 only-two : (n : ℕ) → 1 ≤ n → n ≤ 2 → (n ≡ 1 → ⊥) → n ≡ 2
 only-two n h k d = omega arith

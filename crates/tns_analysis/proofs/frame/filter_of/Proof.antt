@@ -1,4 +1,4 @@
--- `tns_encode::filter_of` meets its contract. A filter that is off has eight zeros, whose indices are eights.
+-- `tns_analysis::frame::filter_of` meets its contract. A filter that is off has eight zeros, whose indices are eights.
 -- Assumes nothing.
 use mathlib.Core.Path.{_≡_, refl, sym, _∙_, ap}
 use mathlib.Core.Bool.{Bool, true, false, cond}
@@ -9,12 +9,12 @@ use lib.Ieee.{Float}
 use lib.ListN.{replicate}
 use Rattle.tns_rows.specs.declared.row.Band.{Band}
 use Rattle.tns_index.specs.Quantizer.{indexOf, coefficientOf, orderOf, orderFrom, notAbove, plusZero}
 use Rattle.tns_analysis.specs.Analysis.{recordOf, reflectionsOf}
 use Rattle.tns_recursion.specs.declared.gain.FilterGain.{FilterGain}
 use Rattle.tns_side.specs.Quantized.{quantizedOf, absent}
-use Rattle.tns_encode.specs.Encoder.{filterOf}
-use Rattle.tns_encode.proofs.filter_of.Statement.{statement}
-use Rattle.tns_encode.proofs.filter_of.Tie as tie
+use Rattle.tns_analysis.specs.FrameSide.{filterOf}
+use Rattle.tns_analysis.proofs.frame.filter_of.Statement.{statement}
+use Rattle.tns_analysis.proofs.frame.filter_of.Tie as tie
 
 zeros-absent : absent ≡ quantizedOf (replicate 8 plusZero)
 unfolding absent quantizedOf indexOf coefficientOf orderOf orderFrom notAbove lib.Ieee.le lib.Ieee.ofBits

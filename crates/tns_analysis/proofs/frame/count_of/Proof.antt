@@ -1,9 +1,9 @@
--- `tns_encode::count_of` meets its contract: a row has a second band or none.
+-- `tns_analysis::frame::count_of` meets its contract: a row has a second band or none.
 -- Assumes nothing.
 use mathlib.Core.Path.{_≡_, refl}
 use borrow.Author.Tests.{eq-eqb, ne-eqb}
-use Rattle.tns_encode.proofs.count_of.Statement.{statement}
-use Rattle.tns_encode.proofs.count_of.Tie as tie
+use Rattle.tns_analysis.proofs.frame.count_of.Statement.{statement}
+use Rattle.tns_analysis.proofs.frame.count_of.Tie as tie
 
 returns : tie.Need-returns
 returns c = rw (eq-eqb (c .before .before .args .row .second .stop) 0 (c .if1 .taken))

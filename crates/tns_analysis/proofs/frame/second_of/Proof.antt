@@ -1,4 +1,4 @@
--- `tns_encode::second_of` meets its contract: no filter where the row has no second band.
+-- `tns_analysis::frame::second_of` meets its contract: no filter where the row has no second band.
 -- Assumes nothing.
 use mathlib.Core.Path.{_≡_, refl, sym, _∙_, ap}
 use mathlib.Core.Bool.{Bool}
@@ -9,9 +9,9 @@ use borrow.Author.Tests.{eq-eqb, ne-eqb}
 use lib.Ieee.{Float}
 use Rattle.tns_rows.specs.declared.row.Row.{Row}
 use Rattle.tns_side.specs.Quantized.{absent}
-use Rattle.tns_encode.specs.Encoder.{filterOf, secondOf}
-use Rattle.tns_encode.proofs.second_of.Statement.{statement}
-use Rattle.tns_encode.proofs.second_of.Tie as tie
+use Rattle.tns_analysis.specs.FrameSide.{filterOf, secondOf}
+use Rattle.tns_analysis.proofs.frame.second_of.Statement.{statement}
+use Rattle.tns_analysis.proofs.frame.second_of.Tie as tie
 
 module _ (row : Row) (lines : List Float) (flag : Bool) (weighting : ℕ) where
   no-second : row .second .stop ≡ 0 → absent ≡ secondOf row lines flag weighting

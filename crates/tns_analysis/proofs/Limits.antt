@@ -9,15 +9,15 @@ use lib.ListN.{length, length-map, length-append, replicate}
 use Rattle.tns_index.specs.Quantizer.{indexOf, coefficientOf, orderOf}
 use Rattle.tns_index.proofs.Indices.{order-at-most, index-at-most}
 use Rattle.tns_lists.specs.Places.{tab}
 use Rattle.tns_analysis.specs.Analysis.{reflectionsOf, recordOf}
 use Rattle.tns_reflections.specs.Reflections.{reflections}
 use Rattle.tns_lists.proofs.Tab.{length-tab}
 use Rattle.tns_rows.specs.declared.row.Band.{Band}
 use Rattle.tns_rows.specs.declared.row.Row.{Row}
 use Rattle.tns_side.specs.Quantized.{quantizedOf, absent}
-use Rattle.tns_encode.specs.Encoder.{filterOf, secondOf, hasSecond, sideOf}
+use Rattle.tns_analysis.specs.FrameSide.{filterOf, secondOf, hasSecond, sideOf}
 use Rattle.tns_side.specs.Limits.{Within8}
-use Rattle.tns_encode.specs.Steps.{Reported}
+use Rattle.tns_side.specs.Limits.{Reported}
 use Rattle.tns_side.proofs.Limits.{quantized-within, absent-within}
 use Rattle.tns_side.specs.declared.Quantized.{Quantized}
 
