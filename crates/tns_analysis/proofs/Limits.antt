@@ -1,20 +1,16 @@
 -- What the encoder reports is within the limits: orders at most 8, eight indices at most 16 for each filter. Assumes nothing.
-use mathlib.Core.Path.{_≡_, refl, sym, _∙_, ap}
+use mathlib.Core.Path.{_≡_, refl}
 use mathlib.Core.Bool.{Bool, true, false, cond}
-use mathlib.Core.List.{List, [], _∷_, _++_, map}
-use Prim.Native.Nat.{ℕ, zero, suc, _+_, _≤_, _<_}
+use mathlib.Core.List.{List}
+use Prim.Native.Nat.{ℕ, _≤_}
 use native.Mathlib.Omega.{arith}
 use lib.Ieee.{Float}
-use lib.ListN.{length, length-map, length-append, replicate}
-use Rattle.tns_index.specs.Quantizer.{indexOf, coefficientOf, orderOf}
-use Rattle.tns_index.proofs.Indices.{order-at-most, index-at-most}
-use Rattle.tns_lists.specs.Places.{tab}
+use lib.ListN.{length}
 use Rattle.tns_analysis.specs.Analysis.{reflectionsOf, recordOf}
 use Rattle.tns_reflections.specs.Reflections.{reflections}
 use Rattle.tns_lists.proofs.Tab.{length-tab}
 use Rattle.tns_rows.specs.declared.row.Band.{Band}
 use Rattle.tns_rows.specs.declared.row.Row.{Row}
-use Rattle.tns_side.specs.Quantized.{quantizedOf, absent}
 use Rattle.tns_analysis.specs.FrameSide.{filterOf, secondOf, hasSecond, sideOf}
 use Rattle.tns_side.specs.Limits.{Within8}
 use Rattle.tns_side.specs.Limits.{Reported}

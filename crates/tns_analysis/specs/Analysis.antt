@@ -1,5 +1,5 @@
 -- Document 01, "Analysis, one filter": from the lines of a band to its record and its eight reflection coefficients. Assumes nothing.
-use mathlib.Core.Bool.{Bool, true, false, cond}
+use mathlib.Core.Bool.{Bool, cond}
 use mathlib.Core.List.{List}
 use Prim.Native.Nat.{ℕ}
 use lib.ListN.{replicate}

@@ -1,8 +1,8 @@
 -- Laws of the cost that callers use in place of its text: a filter within the limits costs at most 84 bits, two of them at most 168.
 -- Each rests on a law of the tables. Assumes nothing.
-use mathlib.Core.Path.{_≡_, refl}
+use mathlib.Core.Path.{_≡_}
 use mathlib.Core.List.{List, [], _∷_}
-use Prim.Native.Nat.{ℕ, zero, suc, _+_, _*_, _/_, _≤_}
+use Prim.Native.Nat.{ℕ, zero, suc, _+_, _*_, _≤_}
 use native.Mathlib.Omega.{arith}
 use lib.ListN.{length, getD, take, drop, length-take}
 use Rattle.tns_refusals.specs.Refusals.{lowestOver}

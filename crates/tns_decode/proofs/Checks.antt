@@ -1,11 +1,11 @@
 -- Laws of the decoder's checks: what a refusal of the frame or of the side data makes of the call, and what is known once neither is refused.
 -- Assumes nothing.
-use mathlib.Core.Path.{_≡_, refl, sym, _∙_, ap}
+use mathlib.Core.Path.{_≡_, refl, sym, _∙_}
 use mathlib.Core.List.{List}
 use Prim.Native.Nat.{ℕ}
 use lib.Ieee.{Float}
 use lib.ListN.{length}
-use Rattle.tns_refusals.specs.Refusals.{Verdict, accepted, refused, refusedAt, noFault, says, sideChecks}
+use Rattle.tns_refusals.specs.Refusals.{Verdict, accepted, noFault, says, sideChecks}
 use Rattle.tns_refusals.specs.declared.Refusal.{Refusal}
 use Rattle.tns_refusals.proofs.Sides.{settle, by-refusal, refused-by-checks, passed-by-checks}
 use Rattle.tns_rows.specs.Durations.{durationOf}

@@ -1,8 +1,8 @@
 -- Laws of the encoder's frames: a row's cuts lie inside its bands, from one computed test, and what a refused and an accepted frame make of the call.
 -- Assumes nothing.
-use mathlib.Core.Path.{_≡_, refl, sym, _∙_, ap, subst}
-use mathlib.Core.Bool.{Bool, true, false, _&&_}
-use mathlib.Core.List.{List, [], _∷_}
+use mathlib.Core.Path.{_≡_, refl, _∙_}
+use mathlib.Core.Bool.{Bool, true, _&&_}
+use mathlib.Core.List.{List, []}
 use Prim.Native.Nat.{ℕ, _≤_, max}
 use native.Mathlib.Omega.{arith}
 use lib.Dec.{leb}
@@ -11,7 +11,7 @@ use lib.Ieee.{Float}
 use lib.ListN.{getD, length}
 use Rattle.tns_lists.specs.Every.{every}
 use Rattle.tns_lists.proofs.Every.{and-left, and-right, every-at}
-use Rattle.tns_refusals.specs.Refusals.{Verdict, accepted, refused, refusedAt, noFault, says}
+use Rattle.tns_refusals.specs.Refusals.{Verdict, accepted, noFault, says}
 use Rattle.tns_refusals.specs.declared.Refusal.{Refusal}
 use Rattle.tns_refusals.specs.declared.Refusal.the-variants.{Duration as D1, Bandwidth, SpectrumLength, ListLength, FilterCount, Order, Index, Weighting}
 use Rattle.tns_refusals.proofs.Sides.{settle, by-refusal, refused-by-checks, passed-by-checks}

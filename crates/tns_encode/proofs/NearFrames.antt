@@ -1,5 +1,4 @@
 -- Demand 3 of the filters that the encoder finds: their coefficients are the table's. Assumes nothing.
-use mathlib.Core.Path.{_≡_}
 use mathlib.Core.Bool.{Bool, true, false, cond}
 use mathlib.Core.List.{List}
 use Prim.Native.Nat.{ℕ}

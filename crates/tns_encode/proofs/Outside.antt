@@ -1,11 +1,10 @@
 -- Document 01, "Band rows": lines outside the bands never change and affect nothing. The laws are of the encode call's spectrum and side data, for
 -- every call, and stand at the end; a refused call changes no line at all. Assumes nothing.
 use mathlib.Core.Path.{_≡_, refl, sym, _∙_, ap}
-use mathlib.Core.Bool.{Bool, true, false, cond}
+use mathlib.Core.Bool.{Bool}
 use mathlib.Core.List.{List}
 use Prim.Native.Nat.{ℕ, _+_, _-_, _≤_, _<_}
 use native.Mathlib.Omega.{arith}
-use lib.Dec.{eqb}
 use lib.Ieee.{Float, nan}
 use lib.ListN.{length, getD}
 use lib.Seq.{ext-getD}
@@ -25,7 +24,7 @@ use Rattle.tns_lattices.specs.States.{atRest}
 use Rattle.tns_lattices.specs.EncoderLattice.{linesEncoded, statesAfter}
 use Rattle.tns_lattices.proofs.TwoBands.{two-length, two-outside, first-inside, second-inside}
 use Rattle.tns_side.specs.declared.SideData.{SideData}
-use Rattle.tns_analysis.specs.FrameSide.{hasSecond, filterOf, secondOf, sideOf}
+use Rattle.tns_analysis.specs.FrameSide.{filterOf, secondOf, sideOf}
 use Rattle.tns_encode.specs.Encoder.{filteredBy, rowEncoded, weightingIn, encodeVerdict, unlessRefused, spectrumEncoded}
 use Rattle.tns_encode.proofs.Frames.{CutWithin, BandsCut, cut-row}
 

@@ -1,15 +1,15 @@
 -- What the encoder reports is sound: the decoder's checks of side data and the cost door accept it, and the bits reported are the cost door's.
 -- Assumes nothing.
-use mathlib.Core.Path.{_≡_, refl, sym, _∙_, ap}
-use mathlib.Core.Bool.{Bool, true, false, _||_, not, cond}
+use mathlib.Core.Path.{_≡_, refl, _∙_}
+use mathlib.Core.Bool.{Bool, true, false, cond}
 use mathlib.Core.List.{List, [], _∷_, _++_, map}
-use Prim.Native.Nat.{ℕ, zero, suc, _+_, _≤_, _<_}
+use Prim.Native.Nat.{ℕ, suc, _≤_}
 use native.Mathlib.Omega.{arith}
-use lib.Dec.{ltb, eqb}
+use lib.Dec.{ltb}
 use borrow.Author.Tests.{le-ltb, eq-eqb}
 use lib.Ieee.{Float}
-use lib.ListN.{length, length-append, replicate}
-use Rattle.tns_refusals.specs.Refusals.{Verdict, accepted, check, checkAt, sideChecks, lowestOver, SoundSide}
+use lib.ListN.{length, length-append}
+use Rattle.tns_refusals.specs.Refusals.{Verdict, accepted, check, sideChecks, lowestOver, SoundSide}
 use Rattle.tns_refusals.specs.declared.Over.the-variants.{Nowhere}
 use Rattle.tns_index.specs.Quantizer.{indexOf}
 use Rattle.tns_cost.specs.Cost.{costOf, countedBits}
@@ -22,8 +22,6 @@ use Rattle.tns_side.specs.Quantized.{quantizedOf, absent}
 use Rattle.tns_analysis.specs.FrameSide.{hasSecond, filterOf, secondOf, sideOf}
 use Rattle.tns_encode.specs.Encoder.{weightingIn}
 use Rattle.tns_side.specs.Side.{ordersIn, indicesIn, bitsOf}
-use Rattle.tns_side.specs.Limits.{Within8}
-use Rattle.tns_side.specs.declared.Quantized.{Quantized}
 use Rattle.tns_analysis.proofs.Limits.{filter-within, second-within}
 
 -- ---- numbers within a limit

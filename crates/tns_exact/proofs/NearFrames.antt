@@ -10,7 +10,7 @@ use lib.IntN.{ℤ, pos, negsuc, negℤ, natAbs, _+ℤ_, +ℤ-assoc}
 use lib.Signed.{_≤ℤ_}
 use lib.Ieee.{Float, nan, binary32, fits}
 use Rattle.tns_lists.proofs.Every.{any-default}
-use Rattle.tns_rounding.specs.Units.{inUnits, powerInUnits, AtMost}
+use Rattle.tns_rounding.specs.Units.{powerInUnits, AtMost}
 use Rattle.tns_rounding.proofs.Factors.{Factor}
 use Rattle.tns_index.specs.Quantizer.{coefficientOf}
 use Rattle.tns_index.proofs.Factors.{coefficient-factor}

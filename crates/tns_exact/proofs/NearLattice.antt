@@ -2,8 +2,7 @@
 -- every order and for both filters, and one over the lines.
 -- Lines of at most 2^(h+23) units of 2^-149, with h = m + 126, are off by at most k·2^k·2^h halves of a unit when k stages are done. Assumes nothing.
 use mathlib.Core.Path.{_≡_, refl, sym, ap, _∙_, subst}
-use mathlib.Core.Logic.{_≢_}
-use mathlib.Core.Bool.{true, false}
+use mathlib.Core.Bool.{false}
 use mathlib.Core.List.{List, [], _∷_, map}
 use Prim.Native.Nat.{ℕ, zero, suc, _+_, _-_, _*_, _^_, _≤_, _<_}
 use native.Mathlib.Decide.{ℕ-discrete}
@@ -11,12 +10,11 @@ use native.Mathlib.Nat.{le-of-suc-le-suc, not-suc-le-zero, mul-le-mul, mul-le-mu
 use native.Mathlib.Omega.{arith}
 use lib.Dec.{T, lit<}
 use lib.Pow.{pow-add, pow-mono}
-use lib.ListN.{length, getD, set, length-set, replicate, getD-replicate, List·getD-map}
+use lib.ListN.{length, getD, set, length-set, getD-replicate, List·getD-map}
 use lib.Seq.{getD-set-same, getD-set-other}
 use lib.IntN.{ℤ, pos, _+ℤ_, _*ℤ_}
-use lib.Ieee.{Float, nan, fin, binary32, add, mul, fits, ofBits}
-use Rattle.tns_rounding.specs.Units.{inUnits, powerInUnits, signed, AtMost, WithinOf}
-use Rattle.tns_rounding.proofs.Pairs.{Pair}
+use lib.Ieee.{Float, nan, binary32, add, mul, fits, ofBits}
+use Rattle.tns_rounding.specs.Units.{inUnits, powerInUnits, AtMost, WithinOf}
 use Rattle.tns_rounding.proofs.Steps.{Tracks, tracks-wider, grown, onto, plus}
 use Rattle.tns_rounding.proofs.Values.{enters, leaves}
 use Rattle.tns_rounding.proofs.Factors.{Factor}

@@ -3,7 +3,7 @@
 use mathlib.Core.Path.{_≡_, refl}
 use mathlib.Core.Bool.{Bool, true, false, _&&_}
 use mathlib.Core.List.{List, [], _∷_, map, reverse}
-use Prim.Native.Nat.{ℕ, zero, suc, _+_, _*_, _%_, _^_}
+use Prim.Native.Nat.{ℕ, suc, _*_, _%_, _^_}
 use lib.Dec.{eqb}
 use lib.ListN.{drop}
 use lib.Ieee.{Float, nan, inf, fin, up, down, lt, eq, le, neg, ofBits}

@@ -1,10 +1,10 @@
 -- Document 01, "Analysis": the autocorrelation of a band at lags 0 to 8. Assumes nothing.
-use mathlib.Core.Bool.{Bool, true, false, cond}
+use mathlib.Core.Bool.{cond}
 use mathlib.Core.List.{List, [], _∷_, map}
 use Prim.Native.Nat.{ℕ, zero, suc, _+_, _-_}
 use lib.Dec.{eqb}
-use lib.ListN.{getD, take, drop, length}
-use lib.Ieee.{Float, nan, eq, ofBits, binary32}
+use lib.ListN.{take, drop, length}
+use lib.Ieee.{Float, eq, ofBits, binary32}
 use Rattle.tns_rows.specs.declared.row.Band.{Band}
 use Rattle.tns_rounding.specs.Floats.{_⊕_, _⊗_, _⊘_, f0}
 use Rattle.tns_lists.specs.Places.{at, tab}

@@ -1,6 +1,6 @@
 -- What the contracts of inner functions cite: the sums of a subband on the way, and a lag from its sums. No public promise rests on these names.
 -- Assumes nothing.
-use mathlib.Core.Bool.{Bool, true, false, cond}
+use mathlib.Core.Bool.{Bool, cond}
 use mathlib.Core.List.{List}
 use Prim.Native.Nat.{ℕ, _+_, _-_, min}
 use lib.Dec.{ltb}

@@ -1,11 +1,9 @@
 -- Document 01, "Analysis": gain, damping and the on/off answer of a filter. Assumes nothing.
-use mathlib.Core.Bool.{Bool, true, false, not, _&&_, cond}
-use mathlib.Core.List.{List}
+use mathlib.Core.Bool.{Bool, not, _&&_, cond}
 use Prim.Native.Nat.{ℕ}
 use lib.Dec.{ltb}
 use lib.Ieee.{Float, eq, lt, ofBits, binary32}
 use Rattle.tns_rounding.specs.Floats.{_⊖_, _⊗_, _⊘_, f0, f1}
-use Rattle.tns_lists.specs.Places.{at}
 use Rattle.tns_recursion.specs.declared.gain.FilterGain.{FilterGain}
 
 abbrev pub f1-5 : Float

@@ -1,6 +1,6 @@
 -- Document 01, "Analysis": damped coefficients, and the step-down to reflection coefficients in E's order of operations. Assumes nothing.
-use mathlib.Core.Bool.{Bool, true, false, _&&_, cond}
-use mathlib.Core.List.{List, [], _∷_, _++_}
+use mathlib.Core.Bool.{_&&_, cond}
+use mathlib.Core.List.{List}
 use Prim.Native.Nat.{ℕ, zero, suc, _-_, _/_, _%_}
 use lib.Dec.{eqb, ltb}
 use lib.Ieee.{Float}

@@ -1,6 +1,6 @@
 -- What inner contracts and laws say of a filter and of side data. No public promise rests on these names. Assumes nothing.
 use mathlib.Core.Path.{_≡_}
-use Prim.Native.Nat.{ℕ, _≤_}
+use Prim.Native.Nat.{_≤_}
 use lib.ListN.{length}
 use Rattle.tns_side.specs.declared.Quantized.{Quantized}
 use Rattle.tns_side.specs.declared.SideData.{SideData}

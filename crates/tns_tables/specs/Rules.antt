@@ -3,7 +3,7 @@
 use mathlib.Core.Path.{_≡_, refl}
 use mathlib.Core.Bool.{Bool, true, false, _&&_}
 use mathlib.Core.List.{List, [], _∷_}
-use Prim.Native.Nat.{ℕ, zero, suc, _+_, _*_, _≤_}
+use Prim.Native.Nat.{ℕ, suc, _+_, _*_}
 use lib.Dec.{eqb, leb}
 use Rattle.tns_lists.specs.Every.{every}
 use Rattle.tns_tables.specs.Tables.{orderBits, orderFreq, orderCumfreq, coefBits, coefFreq, coefCumfreq}

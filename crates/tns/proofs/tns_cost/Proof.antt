@@ -1,10 +1,9 @@
 -- `tns::tns_cost` meets its contract: it tells what the cost door says.
 -- Assumes nothing.
-use mathlib.Core.Path.{_≡_, refl, sym, _∙_, ap, subst}
+use mathlib.Core.Path.{_≡_, sym, _∙_, ap, subst}
 use Prim.Native.Nat.{ℕ, _≤_}
 use borrow.Author.Needs.{needs}
 use Rattle.tns_refusals.specs.Refusals.{Verdict, accepted, placeIn, says}
-use Rattle.tns_refusals.specs.declared.Refusal.{Refusal}
 use Rattle.tns_cost.specs.Cost.{costOf, costSays}
 use Rattle.tns.specs.Answers.{told, noBits, itsBits}
 use Rattle.tns.specs.declared.Answer.{Answer}

@@ -1,6 +1,5 @@
 -- `tns_decode::acting_decoded` meets its contract: filters of order 0 change nothing, and any others are left to `row_decoded`.
 -- Assumes nothing.
-use mathlib.Core.Path.{_≡_}
 use borrow.Author.Needs.{needs}
 use Rattle.tns_decode.proofs.Filters.{one-idle, all-idle}
 use Rattle.tns_decode.proofs.acting_decoded.Statement.{statement}

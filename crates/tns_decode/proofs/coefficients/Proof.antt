@@ -1,11 +1,10 @@
 -- `tns_decode::coefficients` meets its contract. The invariant: the places passed hold the coefficients of their indices.
 -- Assumes nothing.
-use mathlib.Core.Path.{_≡_, refl, sym, _∙_, ap}
-use mathlib.Core.List.{List, map}
-use Prim.Native.Nat.{ℕ, _+_, _-_, _<_, _≤_}
+use mathlib.Core.Path.{_≡_, refl}
+use mathlib.Core.List.{map}
+use Prim.Native.Nat.{_-_, _≤_}
 use native.Mathlib.Omega.{arith}
 use borrow.Author.Needs.{needs}
-use lib.Ieee.{Float}
 use lib.ListN.{length, take, length-set}
 use Rattle.tns_lists.proofs.Filled.{mapped-more, mapped-all}
 use Rattle.tns_decode.specs.Decoder.{decoderCoefficient}

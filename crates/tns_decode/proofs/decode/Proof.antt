@@ -1,19 +1,14 @@
 -- `tns_decode::decode` meets its contract: a frame that is refused, side data that are refused, or the decoded spectrum.
 -- Assumes nothing.
-use mathlib.Core.Path.{_≡_, refl, sym, _∙_, ap}
-use mathlib.Core.List.{List}
-use Prim.Native.Nat.{ℕ}
+use mathlib.Core.Path.{_≡_, sym, _∙_, ap}
 use borrow.Author.Needs.{needs}
-use lib.Ieee.{Float}
 use lib.ListN.{length}
-use Rattle.tns_refusals.specs.Refusals.{Verdict, accepted, noFault, says, sideChecks, sideSays}
+use Rattle.tns_refusals.specs.Refusals.{accepted, noFault, sideChecks, sideSays}
 use Rattle.tns_refusals.proofs.Sides.{sound-side}
-use Rattle.tns_rows.specs.Durations.{durationOf}
 use Rattle.tns_frames.specs.Frames.{frameOf, frameSays}
-use Rattle.tns_rows.specs.Bands.{rowOf}
 use Rattle.tns_rows.specs.declared.row.Row.{Row}
 use Rattle.tns_frames.proofs.Frames.{sound-row}
-use Rattle.tns_decode.specs.Decoder.{decodeChecks, rowDecoded}
+use Rattle.tns_decode.specs.Decoder.{rowDecoded}
 use Rattle.tns_decode.proofs.Checks.{frame-refused, frame-passed, refused-spectrum, accepted-spectrum}
 use Rattle.tns_decode.proofs.decode.Statement.{statement}
 use Rattle.tns_decode.proofs.decode.Tie as tie

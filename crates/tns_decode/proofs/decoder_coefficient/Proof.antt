@@ -1,6 +1,6 @@
 -- `tns_decode::decoder_coefficient` meets its contract.
 -- Assumes nothing.
-use mathlib.Core.Path.{_≡_, refl, sym, _∙_}
+use mathlib.Core.Path.{_≡_, refl, _∙_}
 use Prim.Native.Nat.{ℕ, zero, suc}
 use borrow.Author.Needs.{needs}
 use Rattle.tns_index.specs.Quantizer.{coefficientOf}

@@ -1,12 +1,12 @@
 -- `tns_decode::filter_decoded` meets its contract: the part that was lent comes back decoded, and the rest of the spectrum as it was.
 -- Assumes nothing.
-use mathlib.Core.Path.{_≡_, refl, sym, _∙_, ap}
+use mathlib.Core.Path.{_≡_, _∙_, ap}
 use mathlib.Core.List.{List, _++_, map}
 use Prim.Native.Nat.{ℕ, _-_, _≤_, min}
 use borrow.Author.Needs.{needs}
 use lib.Ieee.{Float}
 use lib.ListN.{take, drop}
-use Rattle.tns_rows.specs.Bands.{inside, within}
+use Rattle.tns_rows.specs.Bands.{inside}
 use Rattle.tns_rows.proofs.Bands.{band-back}
 use Rattle.tns_lattices.specs.DecoderLattice.{linesDecoded, statesAfter}
 use Rattle.tns_decode.specs.Decoder.{decoderCoefficient}

@@ -1,6 +1,6 @@
 -- `tns_decode::row_decoded` meets its contract: none, one or two filters, the second going on from the first one's states and lines.
 -- Assumes nothing.
-use mathlib.Core.Path.{_≡_, refl, sym, _∙_, ap, subst}
+use mathlib.Core.Path.{_≡_, sym, _∙_, ap, subst}
 use mathlib.Core.List.{List, map}
 use Prim.Native.Nat.{ℕ}
 use native.Mathlib.Omega.{arith}
@@ -12,7 +12,7 @@ use Rattle.tns_refusals.proofs.Sides.{none-over}
 use Rattle.tns_rows.specs.Bands.{within}
 use Rattle.tns_rows.proofs.Bands.{Fits}
 use Rattle.tns_lattices.specs.DecoderLattice.{linesDecoded}
-use Rattle.tns_decode.specs.Decoder.{decoderCoefficient, rowDecoded}
+use Rattle.tns_decode.specs.Decoder.{decoderCoefficient}
 use Rattle.tns_decode.proofs.Filters.{none-decoded, one-decoded, two-decoded, firstDone, firstStates}
 use Rattle.tns_decode.proofs.row_decoded.Statement.{statement}
 use Rattle.tns_decode.proofs.row_decoded.Tie as tie

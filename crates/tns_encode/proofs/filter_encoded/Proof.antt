@@ -1,12 +1,12 @@
 -- `tns_encode::filter_encoded` meets its contract: the part that was lent comes back filtered, and the rest of the spectrum as it was.
 -- Assumes nothing.
-use mathlib.Core.Path.{_≡_, refl, sym, _∙_, ap}
+use mathlib.Core.Path.{_≡_, _∙_, ap}
 use mathlib.Core.List.{List, _++_}
 use Prim.Native.Nat.{ℕ, _-_, _≤_, min}
 use borrow.Author.Needs.{needs}
 use lib.Ieee.{Float}
 use lib.ListN.{take, drop}
-use Rattle.tns_rows.specs.Bands.{inside, within}
+use Rattle.tns_rows.specs.Bands.{inside}
 use Rattle.tns_rows.proofs.Bands.{band-back}
 use Rattle.tns_lattices.specs.EncoderLattice.{linesEncoded, statesAfter}
 use Rattle.tns_lattices.proofs.Orders.{within-8}

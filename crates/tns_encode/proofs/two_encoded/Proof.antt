@@ -1,12 +1,10 @@
 -- `tns_encode::two_encoded` meets its contract: the second filter goes on from the first one's states and lines.
 -- Assumes nothing.
-use mathlib.Core.Path.{_≡_, refl, sym, _∙_, ap, subst}
+use mathlib.Core.Path.{_∙_, ap}
 use mathlib.Core.List.{List}
-use Prim.Native.Nat.{ℕ}
 use borrow.Author.Needs.{needs}
 use lib.Ieee.{Float}
 use Rattle.tns_rows.specs.Bands.{within, inside}
-use Rattle.tns_rows.proofs.Bands.{Fits}
 use Rattle.tns_lattices.specs.EncoderLattice.{linesEncoded, statesAfter}
 use Rattle.tns_lattices.specs.States.{atRest}
 use Rattle.tns_lattices.specs.TwoBands.{twoEncoded}

@@ -3,12 +3,11 @@
 use mathlib.Core.Path.{_≡_, refl, sym, _∙_, ap}
 use Prim.Native.Nat.{ℕ}
 use borrow.Author.Needs.{needs}
-use Rattle.tns_refusals.specs.Refusals.{Verdict, accepted, says}
+use Rattle.tns_refusals.specs.Refusals.{Verdict, says}
 use Rattle.tns_refusals.specs.declared.Refusal.{Refusal}
 use Rattle.tns_refusals.proofs.Sides.{by-refusal}
-use Rattle.tns_frames.specs.Frames.{frameOf, frameSays, askedIn, askedBand}
-use Rattle.tns_rows.specs.Bands.{bandOf, noBand}
-use Rattle.tns_rows.specs.declared.row.Band.{Band}
+use Rattle.tns_frames.specs.Frames.{frameSays, askedIn}
+use Rattle.tns_rows.specs.Bands.{noBand}
 use Rattle.tns_rows.specs.declared.row.Row.{Row}
 use Rattle.tns_frames.proofs.asked_band.Statement.{statement}
 use Rattle.tns_frames.proofs.asked_band.Tie as tie

@@ -1,12 +1,10 @@
 -- `tns_frames::band_lines` meets its contract: the part that it hands back lies within the lines, and is the asked band's.
 -- Assumes nothing.
-use mathlib.Core.Path.{_≡_, refl, sym, _∙_, ap, subst}
-use Prim.Native.Nat.{ℕ}
+use mathlib.Core.Path.{sym, ap, subst}
 use native.Mathlib.Omega.{arith}
 use borrow.Author.Needs.{needs}
 use lib.ListN.{length}
 use Rattle.tns_rows.specs.Bands.{inside}
-use Rattle.tns_frames.specs.Frames.{askedBand}
 use Rattle.tns_rows.specs.declared.row.Band.{Band}
 use Rattle.tns_rows.proofs.Bands.{Fits}
 use Rattle.tns_frames.proofs.Frames.{asked-fits}

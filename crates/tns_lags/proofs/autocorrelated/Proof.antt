@@ -1,9 +1,8 @@
 -- `tns_lags::autocorrelated` meets its contract: the lags of the three parts, long or not.
 -- Assumes nothing.
-use mathlib.Core.Path.{_≡_, refl, sym, _∙_, ap}
+use mathlib.Core.Path.{_≡_, _∙_}
 use mathlib.Core.List.{List}
 use borrow.Author.Needs.{needs}
-use native.Mathlib.Omega.{arith}
 use lib.Ieee.{Float}
 use Rattle.tns_rows.specs.declared.row.Band.{Band}
 use Rattle.tns_lists.specs.Places.{tab}

@@ -1,10 +1,8 @@
 -- `tns_lags::normalized` meets its contract. The invariant: the places passed hold their lags.
 -- Assumes nothing.
-use mathlib.Core.Path.{_≡_, refl, sym, _∙_, ap}
-use mathlib.Core.List.{List}
-use Prim.Native.Nat.{ℕ, _+_, _-_, _<_, _≤_}
+use mathlib.Core.Path.{_≡_, refl}
+use Prim.Native.Nat.{ℕ, _-_, _<_, _≤_}
 use native.Mathlib.Omega.{arith}
-use borrow.Author.Needs.{needs}
 use lib.Ieee.{Float}
 use lib.ListN.{length, length-set}
 use Rattle.tns_rounding.specs.Floats.{_⊗_}

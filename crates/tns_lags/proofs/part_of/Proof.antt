@@ -1,8 +1,7 @@
 -- `tns_lags::part_of` meets its contract: start and stop cut at the end of the lines give the same part.
 -- Assumes nothing.
-use mathlib.Core.Path.{_≡_, refl, sym, _∙_, ap}
+use mathlib.Core.Path.{_≡_, _∙_, ap}
 use Prim.Native.Nat.{ℕ, min}
-use native.Mathlib.Omega.{arith}
 use borrow.Author.Needs.{needs}
 use lib.ListN.{length}
 use Rattle.tns_lags.specs.Autocorrelation.{part}

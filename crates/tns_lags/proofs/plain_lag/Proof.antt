@@ -1,6 +1,5 @@
 -- `tns_lags::plain_lag` meets its contract: silent or not.
 -- Assumes nothing.
-use mathlib.Core.Path.{_≡_, refl, sym, _∙_, ap}
 use borrow.Author.Needs.{needs}
 use Rattle.tns_lags.proofs.plain_lag.Statement.{statement}
 use Rattle.tns_lags.proofs.plain_lag.Tie as tie

@@ -1,6 +1,6 @@
 -- `tns_lags::short_lags` meets its contract: the lags from the sums of the three subbands.
 -- Assumes nothing.
-use mathlib.Core.Path.{_≡_, refl, sym, _∙_, ap}
+use mathlib.Core.Path.{_∙_}
 use borrow.Author.Needs.{needs}
 use Rattle.tns_lags.proofs.Lags.{lags-are}
 use Rattle.tns_lags.proofs.short_lags.Statement.{statement}

@@ -1,6 +1,5 @@
 -- `tns_lags::silent_lag` meets its contract: lag 0 or another.
 -- Assumes nothing.
-use mathlib.Core.Path.{_≡_, refl, sym, _∙_, ap}
 use borrow.Author.Tests.{eq-eqb, ne-eqb}
 use Rattle.tns_lags.proofs.silent_lag.Statement.{statement}
 use Rattle.tns_lags.proofs.silent_lag.Tie as tie

@@ -3,12 +3,12 @@
 use mathlib.Core.Path.{_≡_, refl, sym, _∙_, ap}
 use mathlib.Core.Bool.{Bool, true, false, cond}
 use mathlib.Core.Logic.{⊎-elim}
-use Prim.Native.Nat.{ℕ, zero, suc, _+_, _-_, _/_, _%_, _<_, _≤_}
+use Prim.Native.Nat.{ℕ, suc, _+_, _-_, _/_, _%_, _<_, _≤_}
 use native.Mathlib.Omega.{arith}
 use borrow.Author.Tests.{eq-eqb, ne-eqb}
 use lib.Dec.{eqb}
 use lib.Ieee.{Float}
-use Rattle.tns_rounding.specs.Floats.{_⊗_, f1}
+use Rattle.tns_rounding.specs.Floats.{_⊗_}
 use Rattle.tns_reflections.specs.Reflections.{power, powerFrom}
 use Rattle.tns_reflections.proofs.power_of.Statement.{statement}
 use Rattle.tns_reflections.proofs.power_of.Tie as tie

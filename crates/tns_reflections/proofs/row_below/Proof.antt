@@ -1,11 +1,8 @@
 -- `tns_reflections::row_below` meets its contract. The invariant: the places below n are those of the row below, and the others 0.
 -- Assumes nothing.
-use mathlib.Core.Path.{_≡_, refl, sym, _∙_, ap}
-use mathlib.Core.List.{List}
-use Prim.Native.Nat.{ℕ, _+_, _-_, _<_, _≤_}
+use mathlib.Core.Path.{_≡_, refl, _∙_, ap}
+use Prim.Native.Nat.{ℕ, _-_, _<_, _≤_}
 use native.Mathlib.Omega.{arith}
-use borrow.Author.Needs.{needs}
-use lib.Ieee.{Float}
 use lib.ListN.{length, length-set, replicate}
 use Rattle.tns_rounding.specs.Floats.{_⊖_, _⊗_, _⊘_, f0, f1}
 use Rattle.tns_lists.specs.Places.{at}

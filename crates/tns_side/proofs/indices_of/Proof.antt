@@ -1,12 +1,12 @@
 -- `tns_side::indices_of` meets its contract. The invariant: the places passed are done.
 -- Assumes nothing.
-use mathlib.Core.Path.{_≡_, refl, sym, _∙_, ap}
-use mathlib.Core.List.{List, map}
-use Prim.Native.Nat.{ℕ, _+_, _-_, _<_, _≤_}
+use mathlib.Core.Path.{_≡_, refl}
+use mathlib.Core.List.{map}
+use Prim.Native.Nat.{_-_, _≤_}
 use native.Mathlib.Omega.{arith}
 use borrow.Author.Needs.{needs}
 use borrow.Kind.Array.{good-length, eFloat}
-use lib.Ieee.{Float, nan, binary32}
+use lib.Ieee.{nan, binary32}
 use lib.ListN.{length, take, length-set}
 use Rattle.tns_index.specs.Quantizer.{indexOf}
 use Rattle.tns_lists.proofs.Filled.{mapped-more, mapped-all}

@@ -1,6 +1,6 @@
 -- `tns_analysis::frame::analyse_frame` meets its contract: the side data are the definition's, and within the limits that their bits ask for.
 -- Assumes nothing.
-use mathlib.Core.Path.{_≡_, refl, sym, _∙_, ap, subst}
+use mathlib.Core.Path.{sym, _∙_, ap, subst}
 use borrow.Author.Needs.{needs}
 use Rattle.tns_side.specs.Side.{bitsOf}
 use Rattle.tns_side.specs.Limits.{Reported}

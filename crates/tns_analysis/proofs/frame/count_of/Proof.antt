@@ -1,6 +1,5 @@
 -- `tns_analysis::frame::count_of` meets its contract: a row has a second band or none.
 -- Assumes nothing.
-use mathlib.Core.Path.{_≡_, refl}
 use borrow.Author.Tests.{eq-eqb, ne-eqb}
 use Rattle.tns_analysis.proofs.frame.count_of.Statement.{statement}
 use Rattle.tns_analysis.proofs.frame.count_of.Tie as tie

@@ -1,13 +1,12 @@
 -- `tns_analysis::frame::side_bits` meets its contract: each filter is rounded up by itself.
 -- Assumes nothing.
-use mathlib.Core.Path.{_≡_, refl, sym, _∙_, ap}
-use mathlib.Core.List.{List, [], _∷_, _++_}
+use mathlib.Core.Path.{_≡_, refl, sym, _∙_}
 use Prim.Native.Nat.{ℕ, _+_, _≤_}
 use native.Mathlib.Omega.{arith}
 use borrow.Author.Needs.{needs}
-use lib.ListN.{length, take, drop}
+use lib.ListN.{take}
 use lib.Seq.{take-at, drop-at, take-all}
-use Rattle.tns_cost.specs.Cost.{countedBits, filterBits}
+use Rattle.tns_cost.specs.Cost.{filterBits}
 use Rattle.tns_cost.proofs.Costs.{one-counted, two-counted}
 use Rattle.tns_side.specs.Side.{bitsOf}
 use Rattle.tns_side.specs.declared.SideData.{SideData}

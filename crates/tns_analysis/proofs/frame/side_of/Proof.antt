@@ -1,6 +1,6 @@
 -- `tns_analysis::frame::side_of` meets its contract: the parts are the definition's.
 -- Assumes nothing.
-use mathlib.Core.Path.{_≡_, refl}
+use mathlib.Core.Path.{_≡_}
 use mathlib.Core.Bool.{Bool}
 use mathlib.Core.List.{List}
 use Prim.Native.Nat.{ℕ}

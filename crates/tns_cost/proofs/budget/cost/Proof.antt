@@ -1,6 +1,6 @@
 -- `tns_cost::budget::cost` meets its contract: what the shared checks refuse is refused, then a weighting over 1, and the rest has its bits.
 -- Assumes nothing.
-use mathlib.Core.Path.{_≡_, refl, sym, _∙_, ap}
+use mathlib.Core.Path.{_≡_, sym, _∙_, ap}
 use mathlib.Core.List.{List}
 use Prim.Native.Nat.{ℕ, _<_, _≤_}
 use native.Mathlib.Omega.{arith}

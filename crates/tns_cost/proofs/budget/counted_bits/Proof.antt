@@ -1,14 +1,13 @@
 -- `tns_cost::budget::counted_bits` meets its contract: none, one or two filters, each rounded up by itself.
 -- Assumes nothing.
-use mathlib.Core.Path.{_≡_, refl, sym, _∙_, ap}
-use mathlib.Core.List.{List}
-use Prim.Native.Nat.{ℕ, _+_}
+use mathlib.Core.Path.{_≡_, sym, _∙_}
+use Prim.Native.Nat.{_+_}
 use native.Mathlib.Omega.{arith}
 use borrow.Author.Needs.{needs}
-use lib.ListN.{length, getD, take, drop}
+use lib.ListN.{getD, take, drop}
 use Rattle.tns_cost.specs.Cost.{countedBits, filterBits}
 use Rattle.tns_refusals.proofs.Sides.{none-over}
-use Rattle.tns_cost.proofs.Costs.{filter-bits-at-most, one-counted, two-counted}
+use Rattle.tns_cost.proofs.Costs.{one-counted, two-counted}
 use Rattle.tns_cost.proofs.budget.counted_bits.Statement.{statement}
 use Rattle.tns_cost.proofs.budget.counted_bits.Tie as tie
 

@@ -1,9 +1,8 @@
 -- `tns_cost::budget::filter_bits` meets its contract. That nothing wraps follows from the bound on a cost at any order.
 -- Assumes nothing.
-use mathlib.Core.Path.{_≡_, refl, sym, _∙_, ap}
 use native.Mathlib.Omega.{arith}
 use borrow.Author.Needs.{needs}
-use Rattle.tns_cost.specs.Cost.{filterCost, filterBits}
+use Rattle.tns_cost.specs.Cost.{filterBits}
 use Rattle.tns_cost.proofs.Costs.{filter-cost-affordable, filter-bits-at-most}
 use Rattle.tns_cost.proofs.budget.filter_bits.Statement.{statement}
 use Rattle.tns_cost.proofs.budget.filter_bits.Tie as tie

@@ -1,6 +1,6 @@
 -- `tns_cost::budget::filter_cost` meets its contract: order 0 costs nothing, any other its own cost and that of the indices below it.
 -- Assumes nothing.
-use mathlib.Core.Path.{_≡_, refl, sym, _∙_, ap}
+use mathlib.Core.Path.{_≡_, refl}
 use mathlib.Core.List.{List}
 use Prim.Native.Nat.{ℕ, _+_}
 use native.Mathlib.Omega.{arith}

@@ -1,6 +1,6 @@
 -- `tns_lattices::decoder::band_decoded` meets its contract: one law over the order serves every arm.
 -- Assumes nothing.
-use mathlib.Core.Path.{_≡_, refl, sym, _∙_, ap}
+use mathlib.Core.Path.{_≡_, ap}
 use mathlib.Core.List.{List}
 use Prim.Native.Nat.{ℕ, min}
 use borrow.Author.Needs.{needs}

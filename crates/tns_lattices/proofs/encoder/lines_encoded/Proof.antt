@@ -3,11 +3,11 @@
 -- Assumes nothing.
 use mathlib.Core.Path.{_≡_, refl, sym, _∙_, ap}
 use mathlib.Core.List.{List, _++_}
-use Prim.Native.Nat.{ℕ, _+_, _-_, _<_, _≤_}
+use Prim.Native.Nat.{ℕ, _-_, _≤_}
 use native.Mathlib.Omega.{arith}
 use borrow.Author.Needs.{needs}
 use lib.Ieee.{Float, nan}
-use lib.ListN.{length, take, drop, getD, set, length-set}
+use lib.ListN.{length, take, drop, length-set}
 use Rattle.tns_lists.proofs.InPlace.{one-more, state-more, none-left, state-left}
 use Rattle.tns_lattices.specs.EncoderLattice.{lineEncoded, linesEncoded, statesAfter}
 use Rattle.tns_lattices.specs.declared.Passed.{Passed}

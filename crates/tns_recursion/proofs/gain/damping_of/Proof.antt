@@ -1,10 +1,9 @@
 -- `tns_recursion::gain::damping_of` meets its contract: each return goes by the tests before it.
 -- Assumes nothing.
-use mathlib.Core.Path.{_≡_, refl}
-use mathlib.Core.Bool.{Bool, true, false, _&&_, cond}
+use mathlib.Core.Path.{_≡_}
+use mathlib.Core.Bool.{Bool, true, false}
 use Prim.Native.Nat.{ℕ, _<_, _≤_}
 use borrow.Author.Tests.{lt-ltb, le-ltb}
-use lib.Dec.{ltb}
 use lib.Ieee.{Float, lt}
 use Rattle.tns_rounding.specs.Floats.{_⊖_, _⊗_, _⊘_, f1}
 use Rattle.tns_recursion.specs.Gain.{dampingOf, f2, f0-85, f0-5}

@@ -1,6 +1,5 @@
 -- `tns_recursion::gain::gain_of` meets its contract.
 -- Assumes nothing.
-use mathlib.Core.Path.{_≡_}
 use Rattle.tns_recursion.specs.Gain.{gainOf}
 use Rattle.tns_recursion.proofs.gain.gain_of.Statement.{statement}
 use Rattle.tns_recursion.proofs.gain.gain_of.Tie as tie

@@ -1,6 +1,6 @@
 -- `tns_recursion::gain::gain_record` meets its contract: its three parts are their definitions'.
 -- Assumes nothing.
-use mathlib.Core.Path.{_≡_, refl, sym, _∙_, ap}
+use mathlib.Core.Path.{_≡_}
 use mathlib.Core.Bool.{Bool}
 use Prim.Native.Nat.{ℕ}
 use borrow.Author.Needs.{needs}

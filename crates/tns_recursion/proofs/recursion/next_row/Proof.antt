@@ -1,11 +1,8 @@
 -- `tns_recursion::recursion::next_row` meets its contract. The invariant: the places below n are those of the new row, place 0 is 1, place k is rc.
 -- Assumes nothing.
-use mathlib.Core.Path.{_≡_, refl, sym, _∙_, ap}
-use mathlib.Core.List.{List}
-use Prim.Native.Nat.{ℕ, _+_, _-_, _<_, _≤_}
+use mathlib.Core.Path.{_≡_, refl, _∙_, ap}
+use Prim.Native.Nat.{ℕ, _-_, _<_, _≤_}
 use native.Mathlib.Omega.{arith}
-use borrow.Author.Needs.{needs}
-use lib.Ieee.{Float}
 use lib.ListN.{length, length-set, replicate}
 use Rattle.tns_rounding.specs.Floats.{_⊕_, _⊗_, f0}
 use Rattle.tns_lists.specs.Places.{at}

@@ -1,6 +1,5 @@
 -- `tns_recursion::recursion::next_step` meets its contract.
 -- Assumes nothing.
-use mathlib.Core.Path.{_≡_, refl, sym, _∙_, ap}
 use borrow.Author.Needs.{needs}
 use Rattle.tns_recursion.specs.Recursion.{stepped}
 use Rattle.tns_recursion.proofs.recursion.next_step.Statement.{statement}

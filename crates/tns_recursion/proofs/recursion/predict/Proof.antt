@@ -1,6 +1,6 @@
 -- `tns_recursion::recursion::predict` meets its contract: each call is one step of the definition.
 -- Assumes nothing.
-use mathlib.Core.Path.{_≡_, refl, sym, _∙_, ap}
+use mathlib.Core.Path.{_≡_, _∙_, ap}
 use mathlib.Core.List.{List}
 use Prim.Native.Nat.{ℕ, suc}
 use lib.Ieee.{Float}

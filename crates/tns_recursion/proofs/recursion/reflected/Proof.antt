@@ -1,6 +1,5 @@
 -- `tns_recursion::recursion::reflected` meets its contract: a zero error is not divided by.
 -- Assumes nothing.
-use mathlib.Core.Path.{_≡_, refl, sym, _∙_, ap}
 use borrow.Author.Needs.{needs}
 use Rattle.tns_recursion.specs.Recursion.{reflection}
 use Rattle.tns_recursion.proofs.recursion.reflected.Statement.{statement}
