@@ -1,6 +1,6 @@
 -- Document 01, "Refusal numbers" and "Band rows": checks 1 to 3 of a frame, and the band that a caller asks for. Assumes nothing.
 use mathlib.Core.Bool.{_||_}
-use Prim.Native.Nat.{ℕ}
+use Prim.Native.Nat.{ℕ, _+_, _-_, _*_}
 use lib.Dec.{ltb}
 use Rattle.tns_refusals.specs.Refusals.{Verdict, accepted, refused, refusedAt, check, says}
 use Rattle.tns_rows.specs.Durations.{kept, durationOf}
@@ -39,3 +39,11 @@ askedIn (refusedAt number place found) filter = noBand
 
 abbrev pub askedBand : ℕ → ℕ → ℕ → ℕ → Band
 askedBand duration bandwidth filter lines = askedIn (frameOf duration bandwidth lines) filter
+
+-- how many lines a band has
+abbrev pub linesOf : Band → ℕ
+linesOf band = band .stop - band .start
+
+-- where a line stands of a list that begins at a pointer, which is a block of memory and an offset in bytes: a line has four
+abbrev pub lineAt : ℕ × ℕ → ℕ → ℕ × ℕ
+lineAt list line = (list .0, list .1 + line * 4)

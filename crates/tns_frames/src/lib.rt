@@ -7,10 +7,11 @@ use tns_rows::Row;
 use tns_rows::longest;
 use tns_rows::row_of;
 ghost use mathlib.Core.Path.{_≡_};
+ghost use denote.Ref.{ptr};
 ghost use lib.ListN.{length};
 ghost use Rattle.tns_refusals.specs.Refusals.{accepted};
 ghost use Rattle.tns_rows.specs.Bands.{rowOf, noBand, bandOf, lastStop, inside};
-ghost use Rattle.tns_frames.specs.Frames.{lengthCheck, frameOf, frameSays, askedBand};
+ghost use Rattle.tns_frames.specs.Frames.{lengthCheck, frameOf, frameSays, askedBand, lineAt, linesOf};
 
 fn last_stop(row: Row) -> usize
     ensures { λ r. ⌜ r ≡ lastStop row ⌝ }
@@ -93,9 +94,13 @@ pub fn asked_band(duration: u8, bandwidth: u8, filter: u8, lines: usize) -> Band
     }
 }
 
-// The band itself: that part of the caller's own spectrum, or an empty part.
+// The band itself: that part of the caller's own spectrum, or an empty part. What it holds and where it
+// lies is promised. Of the other lines nothing is: the language says nothing of a `&mut` parameter that
+// goes into the result (docs/DECISIONS.md).
 pub fn band_lines(duration: u8, bandwidth: u8, filter: u8, lines: &mut [f32]) -> &mut [f32]
     ensures { λ r. ⌜ now r ≡ inside (askedBand duration bandwidth filter (length (now (lines .entry)))) (now (lines .entry)) ⌝ }
+    ensures { λ r. ⌜ ptr r ≡ lineAt (ptr (lines .entry)) (askedBand duration bandwidth filter (length (now (lines .entry))) .start) ⌝ }
+    ensures { λ r. ⌜ length (now r) ≡ linesOf (askedBand duration bandwidth filter (length (now (lines .entry)))) ⌝ }
 {
     let asked = asked_band(duration, bandwidth, filter, lines.len());
     let start = asked.start;

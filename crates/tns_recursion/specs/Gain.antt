@@ -1,7 +1,7 @@
 -- Document 01, "Analysis": gain, damping and the on/off answer of a filter. Assumes nothing.
 use mathlib.Core.Bool.{Bool, not, _&&_, cond}
 use Prim.Native.Nat.{ℕ}
-use lib.Dec.{ltb}
+use lib.Dec.{eqb}
 use lib.Ieee.{Float, eq, lt, ofBits, binary32}
 use Rattle.tns_rounding.specs.Floats.{_⊖_, _⊗_, _⊘_, f0, f1}
 use Rattle.tns_recursion.specs.declared.gain.FilterGain.{FilterGain}
@@ -29,7 +29,7 @@ isOn gain flag = lt f1-5 gain && not flag
 -- 1 - (1 - 0.85)·(2 - gain)/0.5 where the filter is on, weighting is 1 and gain < 2; otherwise 1
 unfoldable pub dampingOf : Float → Bool → ℕ → Float
 dampingOf gain on weighting =
-    cond (on && (ltb 0 weighting && lt gain f2)) (f1 ⊖ (f1 ⊖ f0-85) ⊗ (f2 ⊖ gain) ⊘ f0-5) f1
+    cond (on && (eqb weighting 1 && lt gain f2)) (f1 ⊖ (f1 ⊖ f0-85) ⊗ (f2 ⊖ gain) ⊘ f0-5) f1
 
 -- the record of a filter
 unfoldable pub gainRecord : Float → Float → Bool → ℕ → FilterGain

@@ -32,7 +32,7 @@ fn damping_of(gain: f32, on: bool, weighting: u8) -> f32
     ensures { λ r. ⌜ r ≡ dampingOf gain on weighting ⌝ }
 {
     if on {
-        if weighting > 0 {
+        if weighting == 1 {
             if gain < 2.0 {
                 return 1.0 - (1.0 - 0.85) * (2.0 - gain) / 0.5;
             }

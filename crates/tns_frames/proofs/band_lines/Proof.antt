@@ -1,10 +1,13 @@
 -- `tns_frames::band_lines` meets its contract: the part that it hands back lies within the lines, and is the asked band's.
 -- Assumes nothing.
-use mathlib.Core.Path.{sym, ap, subst}
+use mathlib.Core.Path.{sym, ap, subst, _∙_}
 use native.Mathlib.Omega.{arith}
 use borrow.Author.Needs.{needs}
+use Prim.Native.Nat.{ℕ}
 use lib.ListN.{length}
 use Rattle.tns_rows.specs.Bands.{inside}
+use Rattle.tns_rows.proofs.Apart.{inside-length}
+use Rattle.tns_frames.specs.Frames.{linesOf}
 use Rattle.tns_rows.specs.declared.row.Band.{Band}
 use Rattle.tns_rows.proofs.Bands.{Fits}
 use Rattle.tns_frames.proofs.Frames.{asked-fits}
@@ -33,7 +36,16 @@ part-lines-end : tie.Need-part-lines-end
 part-lines-end c = fits c .end
 
 returns : tie.Need-returns
-returns c = ap (λ (b : Band). inside b (c .before .before .before .args .lines .now)) (c .before .asked-band .ensures)
+returns c =
+    let lines = c .before .before .before .args .lines in
+    let band = c .before .asked-band .result in
+    let same = c .before .asked-band .ensures in (
+      ap (λ (b : Band). inside b (lines .now)) same,
+      (
+        ap (λ (offset : ℕ). (lines .ptr .0, offset)) (omega (arith, ap (λ (b : Band). b .start) same)),
+        inside-length band (lines .now) (fits (c .before)) ∙ ap linesOf same,
+      ),
+    )
 
 pub band-lines-spec : {M : Type 1} → statement M
 band-lines-spec =

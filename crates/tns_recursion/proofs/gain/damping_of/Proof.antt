@@ -2,8 +2,8 @@
 -- Assumes nothing.
 use mathlib.Core.Path.{_≡_}
 use mathlib.Core.Bool.{Bool, true, false}
-use Prim.Native.Nat.{ℕ, _<_, _≤_}
-use borrow.Author.Tests.{lt-ltb, le-ltb}
+use Prim.Native.Nat.{ℕ}
+use borrow.Author.Tests.{eq-eqb, ne-eqb}
 use lib.Ieee.{Float, lt}
 use Rattle.tns_rounding.specs.Floats.{_⊖_, _⊗_, _⊘_, f1}
 use Rattle.tns_recursion.specs.Gain.{dampingOf, f2, f0-85, f0-5}
@@ -16,18 +16,18 @@ module _ (gain : Float) (on : Bool) (weighting : ℕ) where
   off e = rw e
 
   module _ (is-on : on ≡ true) where
-    unweighted : weighting ≤ 0 → f1 ≡ dampingOf gain on weighting
+    unweighted : (weighting ≡ 1 → ⊥) → f1 ≡ dampingOf gain on weighting
     unfolding dampingOf
-    unweighted h = rw (is-on, le-ltb 0 weighting h)
+    unweighted h = rw (is-on, ne-eqb weighting 1 h)
 
-    module _ (weighted : 0 < weighting) where
+    module _ (weighted : weighting ≡ 1) where
       high : lt gain f2 ≡ false → f1 ≡ dampingOf gain on weighting
       unfolding dampingOf
-      high e = rw (is-on, lt-ltb 0 weighting weighted, e)
+      high e = rw (is-on, eq-eqb weighting 1 weighted, e)
 
       low : lt gain f2 ≡ true → f1 ⊖ (f1 ⊖ f0-85) ⊗ (f2 ⊖ gain) ⊘ f0-5 ≡ dampingOf gain on weighting
       unfolding dampingOf
-      low e = rw (is-on, lt-ltb 0 weighting weighted, e)
+      low e = rw (is-on, eq-eqb weighting 1 weighted, e)
 
 returns : tie.Need-returns
 returns c =
