@@ -15,7 +15,7 @@ tns-decode : DeterminedWith 3 tns-decode-kinds.ps tns-decode-kinds.r tns-decode-
 tns-decode κs a x y s t p q = (itself (p .0) (q .0), itself (p .1) (q .1))
 
 tns-cost : Determined 2 tns-cost-kinds.ps tns-cost-kinds.r tns-cost-reads.Post
-tns-cost κs a x y s t p q = itself p q
+tns-cost κs a x y s t p q = itself (p .0) (q .0)
 
 -- the lines, the side data and the coefficients
 tns-encode-lines : DeterminedWith 3 tns-encode-kinds.ps tns-encode-kinds.r tns-encode-reads.Post (List Float) (λ κs s. s .1 .1 .1 .1 .0 .now)

@@ -1,5 +1,5 @@
 -- The laws that belong to no one function.
-pub mod Places
+pub mod Small
 pub mod Told
 pub mod Determined
 pub mod Sides

@@ -13,14 +13,14 @@ use tns_side::record_of;
 ghost use mathlib.Core.Path.{_≡_};
 ghost use Prim.Native.Nat.{_≤_};
 ghost use lib.ListN.{length};
-ghost use Rattle.tns_refusals.specs.Refusals.{placeIn, says};
+ghost use Rattle.tns_refusals.specs.Refusals.{placeIn, noBits, itsBits, says};
 ghost use Rattle.tns_cost.specs.Cost.{costOf};
 ghost use Rattle.tns_decode.specs.Decoder.{decodeChecks, spectrumDecoded};
 ghost use Rattle.tns_rows.specs.Durations.{durationOf};
 ghost use Rattle.tns_rows.specs.Bands.{rowOf};
-ghost use Rattle.tns_encode.specs.Encoder.{encodeVerdict, bitsIn, sideIn, spectrumEncoded};
+ghost use Rattle.tns_encode.specs.Encoder.{encodeVerdict, bitsVerdict, sideIn, spectrumEncoded};
 ghost use Rattle.tns_exact.specs.Exact.{IfAccepted, NearExact};
-ghost use Rattle.tns.specs.Answers.{told, accepts, noBits, itsBits};
+ghost use Rattle.tns.specs.Answers.{told, accepts};
 ghost use Rattle.tns.specs.Sides.{recordAfter, coefficientsAfter};
 
 // What a call answers. Refusal 0 says that it is accepted, and any other is document 01's number.
@@ -90,11 +90,12 @@ pub extern "C" fn tns_encode(
     side: &mut [u8; 20],
     coefficients: &mut [f32; 16],
 ) -> Answer
-    ensures { λ r. ⌜ r ≡ told itsBits (bitsIn (encodeVerdict duration bandwidth bits flag (now (lines .entry)))) ⌝ }
+    ensures { λ r. ⌜ r ≡ told itsBits (bitsVerdict (encodeVerdict duration bandwidth bits flag (now (lines .entry)))) ⌝ }
     ensures { λ _. ⌜ now (lines .exit) ≡ spectrumEncoded duration bandwidth bits flag (now (lines .entry)) ⌝ }
     ensures { λ _. ⌜ now (side .exit) ≡ recordAfter (encodeVerdict duration bandwidth bits flag (now (lines .entry))) (now (side .entry)) ⌝ }
     ensures { λ _. ⌜ now (coefficients .exit) ≡ coefficientsAfter (encodeVerdict duration bandwidth bits flag (now (lines .entry))) (now (coefficients .entry)) ⌝ }
     ensures { λ _. ⌜ IfAccepted (encodeVerdict duration bandwidth bits flag (now (lines .entry))) (NearExact (rowOf (durationOf duration) bandwidth) (sideIn (encodeVerdict duration bandwidth bits flag (now (lines .entry)))) (now (lines .entry)) (now (lines .exit))) ⌝ }
+    ensures { λ r. ⌜ r .bits ≤ 168 ⌝ }
 {
     let encoded = encode(duration, bandwidth, bits, flag, lines);
     let answer = encoded.answer;
@@ -113,6 +114,7 @@ pub extern "C" fn tns_encode(
 #[no_mangle]
 pub extern "C" fn tns_cost(weighting: u8, filters: u8, orders: &[u8], indices: &[u8]) -> Answer
     ensures { λ r. ⌜ r ≡ told itsBits (costOf weighting filters (now (orders .entry)) (now (indices .entry))) ⌝ }
+    ensures { λ r. ⌜ r .bits ≤ 168 ⌝ }
 {
     let answer = cost(weighting, filters, orders, indices);
     match answer {

@@ -6,7 +6,7 @@ use Prim.Native.Nat.{ℕ, _≤_}
 use native.Mathlib.Omega.{arith}
 use lib.Ieee.{Float}
 use lib.ListN.{length}
-use Rattle.tns_analysis.specs.Analysis.{reflectionsOf, recordOf}
+use Rattle.tns_analysis.specs.Analysis.{reflectionsOf, filterRecord}
 use Rattle.tns_reflections.specs.Reflections.{reflections}
 use Rattle.tns_lists.proofs.Tab.{length-tab}
 use Rattle.tns_rows.specs.declared.row.Band.{Band}
@@ -28,7 +28,7 @@ eight-of-row row = length-tab _ 8
 -- eight reflection coefficients
 eight-reflections : (b : Band) (lines : List Float) (flag : Bool) (weighting : ℕ) → length (reflectionsOf b lines flag weighting) ≡ 8
 unfolding reflectionsOf
-eight-reflections b lines flag weighting = either-length (recordOf b lines flag weighting .on) _ _ 8 (eight-of-row _) refl
+eight-reflections b lines flag weighting = either-length (filterRecord b lines flag weighting .on) _ _ 8 (eight-of-row _) refl
 
 pub filter-within : (b : Band) (lines : List Float) (flag : Bool) (weighting : ℕ) → Within8 (filterOf b lines flag weighting)
 unfolding filterOf

@@ -14,13 +14,13 @@ use Rattle.tns_reflections.specs.Reflections.{damped, reflections}
 use Rattle.tns_recursion.specs.declared.gain.FilterGain.{FilterGain}
 
 -- the record of a filter on a band
-unfoldable pub recordOf : Band → List Float → Bool → ℕ → FilterGain
-recordOf b lines flag weighting =
+unfoldable pub filterRecord : Band → List Float → Bool → ℕ → FilterGain
+filterRecord b lines flag weighting =
     let r = autocorrelation b lines in
     gainRecord (at r 0) (predicted r 8 .error) flag weighting
 
 -- its reflection coefficients: off gives eight zeros
 unfoldable pub reflectionsOf : Band → List Float → Bool → ℕ → List Float
 reflectionsOf b lines flag weighting =
-    let g = recordOf b lines flag weighting in
+    let g = filterRecord b lines flag weighting in
     cond (g .on) (reflections (damped (predicted (autocorrelation b lines) 8 .row) (g .damping))) (replicate 8 f0)

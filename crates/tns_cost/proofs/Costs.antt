@@ -1,15 +1,17 @@
--- Laws of the cost that callers use in place of its text: a filter within the limits costs at most 84 bits, two of them at most 168.
--- Each rests on a law of the tables. Assumes nothing.
+-- Laws of the cost that callers use in place of its text: a filter within the limits costs at most 84 bits, two of them at most 168, and every
+-- sum on the way is below 2 ^ 24. Each rests on a law of the tables. Assumes nothing.
 use mathlib.Core.Path.{_≡_}
 use mathlib.Core.List.{List, [], _∷_}
-use Prim.Native.Nat.{ℕ, zero, suc, _+_, _*_, _≤_}
+use Prim.Native.Nat.{ℕ, zero, suc, _+_, _*_, _^_, _≤_, _<_}
+use lib.Dec.{ltb}
 use native.Mathlib.Omega.{arith}
 use lib.ListN.{length, getD, take, drop, length-take}
-use Rattle.tns_refusals.specs.Refusals.{lowestOver}
+use Rattle.tns_refusals.specs.Refusals.{Verdict, accepted, refused, refusedAt, bitsIn, itsBits, lowestOver, SoundSide}
 use Rattle.tns_refusals.specs.declared.Over.the-variants.{Nowhere}
+use Rattle.tns_refusals.proofs.Checks.{check-by, sides-by}
 use Rattle.tns_refusals.proofs.Sides.{none-over, none-further}
 use Rattle.tns_tables.proofs.Costs.{order-cost-affordable, order-cost-at-most, index-costs-at-most}
-use Rattle.tns_cost.specs.Cost.{orderCost, indexCosts, filterCost, filterBits, countedBits}
+use Rattle.tns_cost.specs.Cost.{orderCost, indexCosts, filterCost, filterBits, countedBits, costOf}
 
 pub filter-cost-at-most : (weighting order : ℕ) (indices : List ℕ) → order ≤ 8 → filterCost weighting order indices ≤ 83 * 2048
 unfolding filterCost orderCost indexCosts
@@ -39,6 +41,53 @@ counted-bits-at-most weighting (suc filters) place (order ∷ orders) indices no
       filter-bits-at-most weighting order (take 8 indices) (none-over 8 place (order ∷ orders) none 0),
       counted-bits-at-most weighting filters (suc place) orders (drop 8 indices) (none-further 8 place order orders none),
     )
+
+-- at most 168 bits for side data that no check refuses
+pub counted-at-most : (weighting filters : ℕ) (orders indices : List ℕ) → SoundSide filters orders indices → countedBits weighting filters orders indices ≤ 168
+counted-at-most weighting filters orders indices sound =
+    omega (arith, counted-bits-at-most weighting filters 0 orders indices (sound .orders-at-most-8), sound .count-at-most-2)
+
+-- ---- what the cost call says
+
+-- what holds of each refusal that it can give, and of the bits of sound side data, holds of what it says
+pub cost-by : (P : Verdict ℕ → Type 0) (weighting filters : ℕ) (orders indices : List ℕ) → P (refused 4) → P (refused 5)
+    → ((place : ℕ) → place < 2 → P (refusedAt 6 place (getD orders place 0)))
+    → ((place : ℕ) → place < 16 → P (refusedAt 7 place (getD indices place 0)))
+    → P (refused 8) → (SoundSide filters orders indices → P (accepted (countedBits weighting filters orders indices)))
+    → P (costOf weighting filters orders indices)
+unfolding costOf
+cost-by P weighting filters orders indices stops4 stops5 stops6 stops7 stops8 goes =
+    sides-by P filters orders indices _ stops4 stops5 stops6 stops7 (λ sound. check-by P 8 (ltb 1 weighting) _ stops8 (λ e. goes sound))
+
+-- at most 168 bits in all
+pub cost-at-most : (weighting filters : ℕ) (orders indices : List ℕ) → bitsIn itsBits (costOf weighting filters orders indices) ≤ 168
+cost-at-most weighting filters orders indices =
+    cost-by (λ v. bitsIn itsBits v ≤ 168) weighting filters orders indices
+    (omega arith)
+    (omega arith)
+    (λ place h. omega arith)
+    (λ place h. omega arith)
+    (omega arith)
+    (counted-at-most weighting filters orders indices)
+
+-- ---- the sums that E works in f32
+
+-- every sum on the way to a filter's bits is below 2 ^ 24: the order's cost with those of the first indices, and E's last sum, with the one bit
+-- that it adds before it divides
+pub sums-below : (weighting order counted : ℕ) (indices : List ℕ) → order ≤ 8
+    → orderCost weighting order + indexCosts (take counted (take order indices)) < 2 ^ 24
+unfolding orderCost indexCosts
+sums-below weighting order counted indices h =
+    omega (
+      arith,
+      order-cost-at-most weighting order h,
+      index-costs-at-most 0 (take counted (take order indices)),
+      length-take counted (take order indices),
+      length-take order indices,
+    )
+
+pub last-sum-below : (weighting order : ℕ) (indices : List ℕ) → order ≤ 8 → 2048 + filterCost weighting order indices < 2 ^ 24
+last-sum-below weighting order indices h = omega (arith, filter-cost-at-most weighting order indices h)
 
 -- the bits of the first filter, and of the first two, of two orders
 pub one-counted : (weighting : ℕ) (orders indices : List ℕ) → length orders ≡ 2 → countedBits weighting 1 orders indices ≡ filterBits weighting (getD orders 0 0) (take 8 indices)

@@ -24,11 +24,11 @@ costBack : (answer : CostAnswer) → answerBack Bits Refused (costSays answer) �
 costBack (Bits bits) = refl
 costBack (Refused why) = refused-back Bits Refused why
 
-abbrev recordOf : Line → RecordAnswer
-recordOf short = Short
-recordOf (costs verdict) = Whole (answerBack Bits Refused verdict)
+abbrev answerOf : Line → RecordAnswer
+answerOf short = Short
+answerOf (costs verdict) = Whole (answerBack Bits Refused verdict)
 
-recordBack : (answer : RecordAnswer) → recordOf (recordSays answer) ≡ answer
+recordBack : (answer : RecordAnswer) → answerOf (recordSays answer) ≡ answer
 recordBack Short = refl
 recordBack (Whole answer) = ap Whole (costBack answer)
 
@@ -36,4 +36,4 @@ cost : Determined 2 cost-kinds.ps cost-kinds.r cost-reads.Post
 cost κs a x y s t p q = coincide costSays (answerBack Bits Refused) costBack (p .0) (q .0)
 
 record-cost : Determined 1 record-cost-kinds.ps record-cost-kinds.r record-cost-reads.Post
-record-cost κs a x y s t p q = coincide recordSays recordOf recordBack p q
+record-cost κs a x y s t p q = coincide recordSays answerOf recordBack p q

@@ -42,8 +42,3 @@ costOf weighting filters orders indices =
 abbrev pub costSays : CostAnswer → Verdict ℕ
 costSays (Bits bits) = accepted bits
 costSays (Refused why) = says why
-
--- the bits that an answer holds, and none where it is a refusal
-abbrev pub bitsIn : CostAnswer → ℕ
-bitsIn (Bits bits) = bits
-bitsIn (Refused why) = 0

@@ -7,8 +7,8 @@ use tns_tables::coef_bits_below;
 use tns_tables::order_bits;
 ghost use mathlib.Core.Path.{_≡_};
 ghost use Prim.Native.Nat.{_≤_};
-ghost use Rattle.tns_refusals.specs.Refusals.{SoundSide};
-ghost use Rattle.tns_cost.specs.Cost.{filterCost, filterBits, countedBits, costOf, costSays, bitsIn};
+ghost use Rattle.tns_refusals.specs.Refusals.{SoundSide, bitsIn, itsBits};
+ghost use Rattle.tns_cost.specs.Cost.{filterCost, filterBits, countedBits, costOf, costSays};
 
 // The answer of `cost`: the bits, or why there are none.
 pub enum CostAnswer {
@@ -60,7 +60,7 @@ fn counted_bits(weighting: u8, filters: u8, orders: &[u8], indices: &[u8]) -> u1
 // bits.
 pub fn cost(weighting: u8, filters: u8, orders: &[u8], indices: &[u8]) -> CostAnswer
     ensures { λ r. ⌜ costSays r ≡ costOf weighting filters (now (orders .entry)) (now (indices .entry)) ⌝ }
-    ensures { λ r. ⌜ bitsIn r ≤ 168 ⌝ }
+    ensures { λ r. ⌜ bitsIn itsBits (costSays r) ≤ 168 ⌝ }
 {
     let side = check_side(filters, orders, indices);
     match side {

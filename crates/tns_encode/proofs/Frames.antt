@@ -26,7 +26,7 @@ use Rattle.tns_frames.proofs.Frames.{frames-settle, sound-frame}
 use Rattle.tns_side.specs.Side.{bitsOf, noSide}
 use Rattle.tns_side.specs.declared.SideData.{SideData}
 use Rattle.tns_analysis.specs.FrameSide.{sideOf}
-use Rattle.tns_encode.specs.Encoder.{rowEncoded, weightingIn, encodeVerdict, bitsIn, sideIn, unlessRefused, spectrumEncoded}
+use Rattle.tns_encode.specs.Encoder.{rowEncoded, weightingIn, encodeVerdict, bitsVerdict, sideIn, unlessRefused, spectrumEncoded}
 
 -- ---- cuts
 
@@ -84,7 +84,7 @@ cut-row duration bandwidth lines row e =
 
 -- ---- what the checks make of the call
 
-refused-bits : (why : Refusal) → says why ≡ bitsIn (says why)
+refused-bits : (why : Refusal) → says why ≡ bitsVerdict (says why)
 refused-bits D1 = refl
 refused-bits Bandwidth = refl
 refused-bits SpectrumLength = refl
@@ -120,7 +120,7 @@ module _ (duration bandwidth nbits : ℕ) (flag : Bool) (lines : List Float) whe
 
   -- a refused frame: the refusal, no side data, the lines that came in
   pub refused-call : (why : Refusal) → says why ≡ frameOf duration bandwidth (length lines)
-      → (says why ≡ bitsIn (encodeVerdict duration bandwidth nbits flag lines))
+      → (says why ≡ bitsVerdict (encodeVerdict duration bandwidth nbits flag lines))
       × (noSide ≡ sideIn (encodeVerdict duration bandwidth nbits flag lines))
       × (lines ≡ spectrumEncoded duration bandwidth nbits flag lines)
   unfolding spectrumEncoded
@@ -134,7 +134,7 @@ module _ (duration bandwidth nbits : ℕ) (flag : Bool) (lines : List Float) whe
   -- an accepted frame: its row, the bits and the side data of its filters, its bands filtered
   pub accepted-call : (row : Row) → accepted row ≡ frameOf duration bandwidth (length lines)
       → (row ≡ rowOf (durationOf duration) bandwidth)
-      × (accepted (bitsOf (sideOf (rowOf (durationOf duration) bandwidth) lines flag (weightingIn duration nbits))) ≡ bitsIn (encodeVerdict duration bandwidth nbits flag lines))
+      × (accepted (bitsOf (sideOf (rowOf (durationOf duration) bandwidth) lines flag (weightingIn duration nbits))) ≡ bitsVerdict (encodeVerdict duration bandwidth nbits flag lines))
       × (sideOf (rowOf (durationOf duration) bandwidth) lines flag (weightingIn duration nbits) ≡ sideIn (encodeVerdict duration bandwidth nbits flag lines))
       × (rowEncoded (rowOf (durationOf duration) bandwidth) lines flag (weightingIn duration nbits) ≡ spectrumEncoded duration bandwidth nbits flag lines)
   unfolding spectrumEncoded side

@@ -19,7 +19,7 @@ use Rattle.tns_rows.proofs.Apart.{Outside, inside-length, inside-at, row-apart,
 use Rattle.tns_frames.specs.Frames.{frameChecks, frameOf}
 use Rattle.tns_frames.proofs.Frames.{sound-row, frames-settle}
 use Rattle.tns_lags.specs.Autocorrelation.{autocorrelation, part}
-use Rattle.tns_analysis.specs.Analysis.{recordOf, reflectionsOf}
+use Rattle.tns_analysis.specs.Analysis.{filterRecord, reflectionsOf}
 use Rattle.tns_lattices.specs.States.{atRest}
 use Rattle.tns_lattices.specs.EncoderLattice.{linesEncoded, statesAfter}
 use Rattle.tns_lattices.proofs.TwoBands.{two-length, two-outside, first-inside, second-inside}
@@ -56,7 +56,7 @@ module _ (b : Band) (xs ys : List Float) (long : length xs ≡ length ys) (cut :
       )
 
   pub same-filter : (flag : Bool) (weighting : ℕ) → filterOf b xs flag weighting ≡ filterOf b ys flag weighting
-  unfolding filterOf reflectionsOf recordOf
+  unfolding filterOf reflectionsOf filterRecord
   same-filter flag weighting = rw same-autocorrelation
 
 -- ---- the encode call

@@ -9,49 +9,52 @@ use lib.Dec.{ltb}
 use borrow.Author.Tests.{le-ltb, eq-eqb}
 use lib.Ieee.{Float}
 use lib.ListN.{length, length-append}
-use Rattle.tns_refusals.specs.Refusals.{Verdict, accepted, check, sideChecks, lowestOver, SoundSide}
+use Rattle.tns_refusals.specs.Refusals.{Verdict, accepted, bitsIn, itsBits, check, sideChecks, lowestOver, SoundSide}
 use Rattle.tns_refusals.specs.declared.Over.the-variants.{Nowhere}
 use Rattle.tns_index.specs.Quantizer.{indexOf}
 use Rattle.tns_cost.specs.Cost.{costOf, countedBits}
+use Rattle.tns_cost.proofs.Costs.{counted-at-most}
 use Rattle.tns_index.proofs.Indices.{index-at-most}
 use Rattle.tns_rows.specs.Durations.{Kept, kept, durationOf, weightingOf}
+use Rattle.tns_rows.specs.Bands.{rowOf}
 use Rattle.tns_rows.specs.declared.row.Band.{Band}
 use Rattle.tns_rows.specs.declared.row.Row.{Row}
+use Rattle.tns_frames.proofs.Frames.{frames-by}
 use Rattle.tns_analysis.specs.Analysis.{reflectionsOf}
 use Rattle.tns_side.specs.Quantized.{quantizedOf, absent}
 use Rattle.tns_analysis.specs.FrameSide.{hasSecond, filterOf, secondOf, sideOf}
-use Rattle.tns_encode.specs.Encoder.{weightingIn}
+use Rattle.tns_encode.specs.Encoder.{weightingIn, encodeVerdict, bitsVerdict}
 use Rattle.tns_side.specs.Side.{ordersIn, indicesIn, bitsOf}
 use Rattle.tns_analysis.proofs.Limits.{filter-within, second-within}
 
 -- ---- numbers within a limit
 
-abbrev AtMost : ℕ → List ℕ → Type 0
-AtMost limit [] = Unit {0}
-AtMost limit (x ∷ xs) = (x ≤ limit) × AtMost limit xs
+abbrev EachAtMost : ℕ → List ℕ → Type 0
+EachAtMost limit [] = Unit {0}
+EachAtMost limit (x ∷ xs) = (x ≤ limit) × EachAtMost limit xs
 
-none-found : (limit place : ℕ) (xs : List ℕ) → AtMost limit xs → lowestOver limit place xs ≡ Nowhere
+none-found : (limit place : ℕ) (xs : List ℕ) → EachAtMost limit xs → lowestOver limit place xs ≡ Nowhere
 unfolding lowestOver
 none-found limit place [] h = refl
 none-found limit place (x ∷ xs) h = rw (le-ltb limit x (h .0)) (none-found limit (suc place) xs (h .1))
 
-append-at-most : (limit : ℕ) (xs ys : List ℕ) → AtMost limit xs → AtMost limit ys → AtMost limit (xs ++ ys)
+append-at-most : (limit : ℕ) (xs ys : List ℕ) → EachAtMost limit xs → EachAtMost limit ys → EachAtMost limit (xs ++ ys)
 append-at-most limit [] ys p q = q
 append-at-most limit (x ∷ xs) ys p q = (p .0, append-at-most limit xs ys (p .1) q)
 
-indices-at-most : (r : List Float) → AtMost 16 (map indexOf r)
+indices-at-most : (r : List Float) → EachAtMost 16 (map indexOf r)
 indices-at-most [] = tt
 indices-at-most (x ∷ xs) = (index-at-most x, indices-at-most xs)
 
-filter-indices : (b : Band) (lines : List Float) (flag : Bool) (weighting : ℕ) → AtMost 16 (filterOf b lines flag weighting .indices)
+filter-indices : (b : Band) (lines : List Float) (flag : Bool) (weighting : ℕ) → EachAtMost 16 (filterOf b lines flag weighting .indices)
 unfolding filterOf quantizedOf
 filter-indices b lines flag weighting = indices-at-most (reflectionsOf b lines flag weighting)
 
-second-indices : (row : Row) (lines : List Float) (flag : Bool) (weighting : ℕ) → AtMost 16 (secondOf row lines flag weighting .indices)
+second-indices : (row : Row) (lines : List Float) (flag : Bool) (weighting : ℕ) → EachAtMost 16 (secondOf row lines flag weighting .indices)
 unfolding secondOf absent
 second-indices row lines flag weighting = either (hasSecond row)
   where
-    either : (two : Bool) → AtMost 16 (cond two (filterOf (row .second) lines flag weighting) absent .indices)
+    either : (two : Bool) → EachAtMost 16 (cond two (filterOf (row .second) lines flag weighting) absent .indices)
     either true = filter-indices (row .second) lines flag weighting
     either false = (omega arith, (omega arith, (omega arith, (omega arith, (omega arith, (omega arith, (omega arith, (omega arith, tt))))))))
 
@@ -77,6 +80,12 @@ module _ (row : Row) (lines : List Float) (flag : Bool) (weighting : ℕ) where
       one-or-two : (two : Bool) → cond two 2 1 ≤ 2
       one-or-two true = omega arith
       one-or-two false = omega arith
+
+  -- at most 168 bits
+  pub reported-bits-at-most : bitsOf (sideOf row lines flag weighting) ≤ 168
+  reported-bits-at-most =
+      let s = sideOf row lines flag weighting in
+      counted-at-most (s .weighting) (s .filters) (ordersIn s) (indicesIn s) reported-sound
 
 -- side data that are sound pass checks 4 to 7, for decode and cost
 pub sound-passes : {A : Type 0} (filters : ℕ) (orders indices : List ℕ) → SoundSide filters orders indices → (next : Verdict A) → sideChecks filters orders indices next ≡ next
@@ -109,3 +118,13 @@ pub reported-bits : (duration nbits : ℕ) (row : Row) (lines : List Float) (fla
 reported-bits duration nbits row lines flag =
     let s = sideOf row lines flag (weightingIn duration nbits) in
     costs (s .weighting) (s .filters) (ordersIn s) (indicesIn s) (reported-sound row lines flag (weightingIn duration nbits)) (its-weighting duration nbits row lines flag)
+
+-- an answer has at most 168 bits
+pub encode-at-most : (duration bandwidth nbits : ℕ) (flag : Bool) (lines : List Float) → bitsIn itsBits (bitsVerdict (encodeVerdict duration bandwidth nbits flag lines)) ≤ 168
+unfolding encodeVerdict
+encode-at-most duration bandwidth nbits flag lines =
+    frames-by (λ v. bitsIn itsBits (bitsVerdict v) ≤ 168) duration bandwidth (length lines) _
+    (omega arith)
+    (omega arith)
+    (omega arith)
+    (reported-bits-at-most (rowOf (durationOf duration) bandwidth) lines flag (weightingIn duration nbits))

@@ -41,10 +41,10 @@ sideIn (refused number) = noSide
 sideIn (refusedAt number place found) = noSide
 
 -- the answer: the bits of the side data, or the refusal
-abbrev pub bitsIn : Verdict SideData → Verdict ℕ
-bitsIn (accepted side) = accepted (bitsOf side)
-bitsIn (refused number) = refused number
-bitsIn (refusedAt number place found) = refusedAt number place found
+abbrev pub bitsVerdict : Verdict SideData → Verdict ℕ
+bitsVerdict (accepted side) = accepted (bitsOf side)
+bitsVerdict (refused number) = refused number
+bitsVerdict (refusedAt number place found) = refusedAt number place found
 
 abbrev pub encodeSays : EncodeAnswer → Verdict ℕ
 encodeSays (Bits bits) = accepted bits

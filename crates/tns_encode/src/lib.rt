@@ -14,7 +14,7 @@ use tns_side::SideData;
 ghost use mathlib.Core.Path.{_≡_};
 ghost use Prim.Native.Nat.{_≤_};
 ghost use lib.ListN.{length};
-ghost use Rattle.tns_refusals.specs.Refusals.{accepted, says};
+ghost use Rattle.tns_refusals.specs.Refusals.{accepted, says, bitsIn, itsBits};
 ghost use Rattle.tns_rows.specs.Durations.{durationOf};
 ghost use Rattle.tns_rows.specs.Bands.{inside, within, rowOf};
 ghost use Rattle.tns_rows.proofs.Bands.{Fits, SoundRow};
@@ -22,7 +22,7 @@ ghost use Rattle.tns_lattices.specs.EncoderLattice.{linesEncoded, statesAfter};
 ghost use Rattle.tns_side.specs.Side.{bitsOf, noFilter, noSide};
 ghost use Rattle.tns_exact.specs.Exact.{IfAccepted, NearExact};
 ghost use Rattle.tns_analysis.specs.FrameSide.{sideOf};
-ghost use Rattle.tns_encode.specs.Encoder.{filteredBy, rowEncoded, encodeVerdict, bitsIn, sideIn, encodeSays, spectrumEncoded};
+ghost use Rattle.tns_encode.specs.Encoder.{filteredBy, rowEncoded, encodeVerdict, bitsVerdict, sideIn, encodeSays, spectrumEncoded};
 ghost use Rattle.tns_side.specs.Limits.{Reported};
 
 // The answer of `encode`: the bits of the side data, or why there are none.
@@ -119,10 +119,11 @@ fn refused(why: Refusal) -> Encoded
 // Encodes a spectrum in place. Any numbers may be given: a frame that document 01 refuses is refused
 // by number, leaves every line as it was, and has no side data.
 pub fn encode(duration: u8, bandwidth: u8, nbits: u64, flag: bool, lines: &mut [f32]) -> Encoded
-    ensures { λ r. ⌜ encodeSays (r .answer) ≡ bitsIn (encodeVerdict duration bandwidth nbits flag (now (lines .entry))) ⌝ }
+    ensures { λ r. ⌜ encodeSays (r .answer) ≡ bitsVerdict (encodeVerdict duration bandwidth nbits flag (now (lines .entry))) ⌝ }
     ensures { λ r. ⌜ r .side ≡ sideIn (encodeVerdict duration bandwidth nbits flag (now (lines .entry))) ⌝ }
     ensures { λ _. ⌜ now (lines .exit) ≡ spectrumEncoded duration bandwidth nbits flag (now (lines .entry)) ⌝ }
     ensures { λ r. ⌜ IfAccepted (encodeSays (r .answer)) (NearExact (rowOf (durationOf duration) bandwidth) (r .side) (now (lines .entry)) (now (lines .exit))) ⌝ }
+    ensures { λ r. ⌜ bitsIn itsBits (encodeSays (r .answer)) ≤ 168 ⌝ }
 {
     let frame = check_frame(duration, bandwidth, lines.len());
     match frame {

@@ -21,7 +21,7 @@ use Rattle.tns_lags.specs.Autocorrelation.{products, lagSum, normalizedLag, aut
 use Rattle.tns_recursion.specs.Recursion.{crossed, reflection, nextRow, stepped, unpredicted, predicted}
 use Rattle.tns_recursion.specs.Gain.{gainOf, isOn, dampingOf, gainRecord}
 use Rattle.tns_reflections.specs.Reflections.{powerFrom, power, damped, rowBelow, rowAt, reflections}
-use Rattle.tns_analysis.specs.Analysis.{recordOf, reflectionsOf}
+use Rattle.tns_analysis.specs.Analysis.{filterRecord, reflectionsOf}
 use Rattle.tns_side.specs.Quantized.{quantizedOf, absent}
 use Rattle.tns_lattices.specs.EncoderLattice.{stage, stagesTo, lineEncoded, linesEncoded, statesAfter}
 use Rattle.tns_analysis.specs.FrameSide.{filterOf, secondOf, sideOf}
@@ -141,5 +141,5 @@ pub record Worked : Type 0 where
   pub exactly : shown (firstExact row side frame) (secondExact row side frame) ≡ exactLines
 
 pub worked : Worked
-unfolding ofBits toBits add sub mul div neg eq lt le notAbove indexOf coefficientOf orderFrom orderOf weightingOf rowOf frameChecks linesThrough stateThrough tab products lagSum normalizedLag autocorrelation crossed reflection nextRow stepped unpredicted predicted gainOf isOn dampingOf gainRecord powerFrom power damped rowBelow rowAt reflections recordOf reflectionsOf quantizedOf absent stage stagesTo lineEncoded linesEncoded statesAfter filterOf secondOf sideOf twoEncoded filteredBy rowEncoded encodeVerdict spectrumEncoded exactStage exactStagesTo lineExact linesExact statesExact firstExact exactCarried secondExact ne
+unfolding ofBits toBits add sub mul div neg eq lt le notAbove indexOf coefficientOf orderFrom orderOf weightingOf rowOf frameChecks linesThrough stateThrough tab products lagSum normalizedLag autocorrelation crossed reflection nextRow stepped unpredicted predicted gainOf isOn dampingOf gainRecord powerFrom power damped rowBelow rowAt reflections filterRecord reflectionsOf quantizedOf absent stage stagesTo lineEncoded linesEncoded statesAfter filterOf secondOf sideOf twoEncoded filteredBy rowEncoded encodeVerdict spectrumEncoded exactStage exactStagesTo lineExact linesExact statesExact firstExact exactCarried secondExact ne
 worked = record { orders = refl; coefficients = refl; filtered = refl; distant = refl; exactly = refl }

@@ -6,6 +6,7 @@ use native.Mathlib.Omega.{arith}
 use lib.Dec.{ltb}
 use borrow.Author.Tests.{ltb-false}
 use Rattle.tns_refusals.specs.Refusals.{Verdict, accepted, refused, refusedAt, noFault, check}
+use Rattle.tns_refusals.proofs.Checks.{check-by}
 use Rattle.tns_refusals.proofs.Sides.{settle}
 use Rattle.tns_rows.specs.Durations.{kept, durationOf}
 use Rattle.tns_rows.specs.Bands.{rowOf, noBand, lastStop}
@@ -25,6 +26,15 @@ frames-settle {A} duration bandwidth lines next =
     cases false true c = refl
     cases false false true = refl
     cases false false false = refl
+
+-- what holds of refusals 1 to 3 and of what follows them holds of what they say
+pub frames-by : {A : Type 0} (P : Verdict A → Type 0) (duration bandwidth lines : ℕ) (next : Verdict A)
+    → P (refused 1) → P (refused 2) → P (refused 3) → P next → P (frameChecks duration bandwidth lines next)
+unfolding frameChecks
+frames-by P duration bandwidth lines next stops1 stops2 stops3 goes =
+    check-by P 1 (ltb 1 duration) _ stops1 (λ e.
+    check-by P 2 (ltb 4 bandwidth) _ stops2 (λ e.
+    check-by P 3 (ltb lines (lastStop (rowOf (durationOf duration) bandwidth)) || ltb (kept (durationOf duration) .longest) lines) next stops3 (λ e. goes)))
 
 -- what checks 1 to 3 leave of a frame that they accept
 pub record SoundFrame (duration bandwidth lines : ℕ) (row : Row) : Type 0 where

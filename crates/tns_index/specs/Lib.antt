@@ -2,3 +2,4 @@
 pub mod Quantizer
 pub mod QuantizerRules
 pub mod Sines
+pub mod Step

@@ -21,10 +21,10 @@ use Rattle.tns_index.specs.Quantizer.{coefficientPatterns, thresholdPatt
 -- From the numbers of (n - 2)θ and nθ to those of nθ and (n + 2)θ, as often as said, by
 -- sin (n + 2)θ = 2 cos 2θ sin nθ - sin (n - 2)θ, and the same of the cosine. Each step takes the factor q ² out of the fraction.
 unfoldable pub ascend : ℤ → ℤ → ℕ → ℤ → ℤ → ℤ
-ascend p q zero before now = now
-ascend p q (suc steps) before now =
+ascend p q zero before last = last
+ascend p q (suc steps) before last =
     let twiceCos2θ = pos 2 *ℤ (q *ℤ q -ℤ pos 2 *ℤ (p *ℤ p)) in
-    ascend p q steps now (twiceCos2θ *ℤ now -ℤ q *ℤ q *ℤ (q *ℤ q) *ℤ before)
+    ascend p q steps last (twiceCos2θ *ℤ last -ℤ q *ℤ q *ℤ (q *ℤ q) *ℤ before)
 
 -- q ^ 17 sin 17θ, from sin θ = p / q and sin 3θ = 3 sin θ - 4 sin ³ θ
 unfoldable pub sine17 : ℤ → ℤ → ℤ
@@ -45,12 +45,12 @@ at-30-degrees = (refl, refl)
 
 -- the size of the f32 of a pattern below 2 ^ 31, in units of 2 ^ -149
 unfoldable pub sizeOf : ℕ → ℕ
-sizeOf pattern = inUnits (ofBits binary32 pattern)
+sizeOf pattern = sizeIn (ofBits binary32 pattern)
   where
-    inUnits : Float → ℕ
-    inUnits nan = 0
-    inUnits (inf s) = 0
-    inUnits (fin s m e) = m * up e * 2 ^ 149 / down e
+    sizeIn : Float → ℕ
+    sizeIn nan = 0
+    sizeIn (inf s) = 0
+    sizeIn (fin s m e) = m * up e * 2 ^ 149 / down e
 
 -- The finite f32s have places: pattern k without a sign stands at k, with its sign at -k. Neighbours have neighbouring places.
 unfoldable pub placeOf : ℕ → ℤ

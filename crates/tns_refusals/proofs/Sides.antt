@@ -13,6 +13,7 @@ use Rattle.tns_refusals.specs.declared.Refusal.{Refusal}
 use Rattle.tns_refusals.specs.declared.Refusal.the-variants.{Duration, Bandwidth, SpectrumLength, ListLength, FilterCount, Order, Index, Weighting}
 use Rattle.tns_refusals.specs.declared.Over.{Over}
 use Rattle.tns_refusals.specs.declared.Over.the-variants.{Nowhere, At}
+use Rattle.tns_refusals.proofs.Checks.{sides-by}
 
 -- the first refusal stands; an accepted call leaves the answer to what follows
 abbrev pub settle : {B : Type 0} → Verdict (Unit {0}) → Verdict B → Verdict B
@@ -98,26 +99,13 @@ sides-settle {A} filters orders indices next =
 
 -- what is known once they find no fault
 pub sound-side : (filters : ℕ) (orders indices : List ℕ) → sideChecks filters orders indices noFault ≡ noFault → SoundSide filters orders indices
-unfolding sideChecks
 sound-side filters orders indices =
-    cases (eqb (length orders) 2) refl (eqb (length indices) 16) refl (ltb 2 filters) refl (lowestOver 8 0 orders) refl (lowestOver 16 0 indices) refl
-  where
-    cases : (a : Bool) → eqb (length orders) 2 ≡ a → (b : Bool) → eqb (length indices) 16 ≡ b → (n : Bool) → ltb 2 filters ≡ n
-        → (o : Over) → lowestOver 8 0 orders ≡ o → (i : Over) → lowestOver 16 0 indices ≡ i
-        → check 4 (not a || not b) (check 5 n (checkAt 6 o (checkAt 7 i noFault))) ≡ noFault → SoundSide filters orders indices
-    cases false ea b eb n en o eo i ei e = let z : _≡_ {A = ℕ} 0 1 = cc in absurd (omega arith)
-    cases true ea false eb n en o eo i ei e = let z : _≡_ {A = ℕ} 0 1 = cc in absurd (omega arith)
-    cases true ea true eb true en o eo i ei e = let z : _≡_ {A = ℕ} 0 1 = cc in absurd (omega arith)
-    cases true ea true eb false en (At p f) eo i ei e = let z : _≡_ {A = ℕ} 0 1 = cc in absurd (omega arith)
-    cases true ea true eb false en Nowhere eo (At p f) ei e = let z : _≡_ {A = ℕ} 0 1 = cc in absurd (omega arith)
-    cases true ea true eb false en Nowhere eo Nowhere ei e =
-        record {
-          two-orders = eqb-true (length orders) 2 ea;
-          sixteen-indices = eqb-true (length indices) 16 eb;
-          count-at-most-2 = ltb-false 2 filters en;
-          orders-at-most-8 = eo;
-          indices-at-most-16 = ei;
-        }
+    sides-by (λ v. v ≡ noFault → SoundSide filters orders indices) filters orders indices noFault
+    (λ e. let z : _≡_ {A = ℕ} 0 1 = cc in absurd (omega arith))
+    (λ e. let z : _≡_ {A = ℕ} 0 1 = cc in absurd (omega arith))
+    (λ place h e. let z : _≡_ {A = ℕ} 0 1 = cc in absurd (omega arith))
+    (λ place h e. let z : _≡_ {A = ℕ} 0 1 = cc in absurd (omega arith))
+    (λ sound e. sound)
 
 -- where no number is over the limit, none is after the first, and the first is at most the limit
 first-fine : (limit place x : ℕ) (xs : List ℕ) → lowestOver limit place (x ∷ xs) ≡ Nowhere → (x ≤ limit) × (lowestOver limit (suc place) xs ≡ Nowhere)

@@ -46,6 +46,19 @@ foundIn (accepted a) = 0
 foundIn (refused number) = 0
 foundIn (refusedAt number place found) = found
 
+-- the bits of an accepted call, read off its result, and 0 of a refused one
+abbrev pub bitsIn : {A : Type 0} → (A → ℕ) → Verdict A → ℕ
+bitsIn bits (accepted a) = bits a
+bitsIn bits (refused number) = 0
+bitsIn bits (refusedAt number place found) = 0
+
+-- the bits of a result: a decoded spectrum has none, and a cost is its bits
+abbrev pub noBits : Unit {0} → ℕ
+noBits u = 0
+
+abbrev pub itsBits : ℕ → ℕ
+itsBits bits = bits
+
 -- Checks run in number order and the first stands: one that finds no fault leaves the answer to what follows.
 abbrev pub check : {A : Type 0} → ℕ → Bool → Verdict A → Verdict A
 check number fault next = cond fault (refused number) next

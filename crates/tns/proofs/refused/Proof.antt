@@ -3,16 +3,16 @@
 use mathlib.Core.Path.{_≡_, refl}
 use Prim.Native.Nat.{ℕ}
 use borrow.Author.Needs.{needs}
-use Rattle.tns_refusals.specs.Refusals.{numberIn, placeIn, foundIn, says}
+use Rattle.tns_refusals.specs.Refusals.{numberIn, placeIn, foundIn, bitsIn, noBits, says}
 use Rattle.tns_refusals.specs.declared.Refusal.{Refusal}
 use Rattle.tns_refusals.proofs.Sides.{by-refusal}
-use Rattle.tns.specs.Answers.{told, noBits, bitsOf}
+use Rattle.tns.specs.Answers.{told}
 use Rattle.tns.specs.declared.Answer.{Answer}
 use Rattle.tns.proofs.refused.Statement.{statement}
 use Rattle.tns.proofs.refused.Tie as tie
 
-no-bits : (why : Refusal) → 0 ≡ bitsOf noBits (says why)
-no-bits why = by-refusal (λ v. 0 ≡ bitsOf noBits v) (λ n. refl) (λ n p f. refl) why
+no-bits : (why : Refusal) → 0 ≡ bitsIn noBits (says why)
+no-bits why = by-refusal (λ v. 0 ≡ bitsIn noBits v) (λ n. refl) (λ n p f. refl) why
 
 own-numbers : (why : Refusal) (n p f : ℕ) → n ≡ numberIn (says {A = Unit {0}} why) → p ≡ placeIn (says {A = Unit {0}} why) → f ≡ foundIn (says {A = Unit {0}} why)
     → record { refusal = n; place = p; found = f; bits = 0 } ≡ told noBits (says why)

@@ -4,10 +4,10 @@ use mathlib.Core.Path.{_≡_, refl, sym, _∙_, ap, subst}
 use Prim.Native.Nat.{ℕ, _≤_}
 use borrow.Author.Needs.{needs}
 use lib.ListN.{length}
-use Rattle.tns_refusals.specs.Refusals.{Verdict, noFault, placeIn, says}
+use Rattle.tns_refusals.specs.Refusals.{Verdict, noFault, placeIn, noBits, says}
 use Rattle.tns_decode.specs.Decoder.{decodeChecks, decodeSays}
-use Rattle.tns.specs.Answers.{told, noBits}
-use Rattle.tns.proofs.Places.{decode-place}
+use Rattle.tns.specs.Answers.{told}
+use Rattle.tns.proofs.Small.{decode-place}
 use Rattle.tns.proofs.tns_decode.Statement.{statement}
 use Rattle.tns.proofs.tns_decode.Tie as tie
 

@@ -5,16 +5,17 @@ use Prim.Native.Nat.{ℕ, _≤_}
 use borrow.Author.Needs.{needs}
 use mathlib.Core.List.{List}
 use lib.Ieee.{Float}
-use Rattle.tns_refusals.specs.Refusals.{Verdict, accepted, refused, refusedAt, placeIn, says}
+use Rattle.tns_refusals.specs.Refusals.{Verdict, accepted, refused, refusedAt, placeIn, bitsIn, noBits, itsBits, says}
 use Rattle.tns_rows.specs.Durations.{durationOf}
 use Rattle.tns_rows.specs.Bands.{rowOf}
 use Rattle.tns_rows.specs.declared.row.Row.{Row}
-use Rattle.tns_encode.specs.Encoder.{encodeVerdict, bitsIn, sideIn, encodeSays}
+use Rattle.tns_encode.specs.Encoder.{encodeVerdict, bitsVerdict, sideIn, encodeSays}
 use Rattle.tns_exact.specs.Exact.{IfAccepted, NearExact}
+use Rattle.tns_encode.proofs.Reported.{encode-at-most}
 use Rattle.tns_side.specs.declared.SideData.{SideData}
-use Rattle.tns.specs.Answers.{told, noBits, itsBits}
+use Rattle.tns.specs.Answers.{told}
 use Rattle.tns.specs.declared.Answer.{Answer}
-use Rattle.tns.proofs.Places.{encode-place}
+use Rattle.tns.proofs.Small.{encode-place}
 use Rattle.tns.proofs.Sides.{refused-writes, accepted-writes}
 use Rattle.tns.proofs.Told.{refused-told}
 use Rattle.tns.proofs.tns_encode.Statement.{statement}
@@ -23,23 +24,27 @@ use Rattle.tns.proofs.tns_encode.Tie as tie
 -- what the door said, of a refusal and of bits
 said : (c : tie.After-answer) →
     let g = c .before .before .before .before .before .before .before .args in
-    says (c .answer .given .0 .0) ≡ bitsIn (encodeVerdict (g .duration) (g .bandwidth) (g .bits) (g .flag) (g .lines .now))
+    says (c .answer .given .0 .0) ≡ bitsVerdict (encodeVerdict (g .duration) (g .bandwidth) (g .bits) (g .flag) (g .lines .now))
 said c = sym (ap encodeSays (c .answer .given .1)) ∙ c .before .before .before .before .encode .ensures .0
 
 costs : (c : tie.After-answer2) →
     let g = c .before .before .before .before .before .before .before .args in
-    accepted (c .answer2 .given .0 .0) ≡ bitsIn (encodeVerdict (g .duration) (g .bandwidth) (g .bits) (g .flag) (g .lines .now))
+    accepted (c .answer2 .given .0 .0) ≡ bitsVerdict (encodeVerdict (g .duration) (g .bandwidth) (g .bits) (g .flag) (g .lines .now))
 costs c = sym (ap encodeSays (c .answer2 .given .1)) ∙ c .before .before .before .before .encode .ensures .0
 
 -- what the door promises of an accepted call, in the verdict's words
-near-of : (row : Row) (v : Verdict SideData) (said : Verdict ℕ) (side : SideData) (before after : List Float) → said ≡ bitsIn v → side ≡ sideIn v
+near-of : (row : Row) (v : Verdict SideData) (said : Verdict ℕ) (side : SideData) (before after : List Float) → said ≡ bitsVerdict v → side ≡ sideIn v
     → IfAccepted said (NearExact row side before after) → IfAccepted v (NearExact row (sideIn v) before after)
-near-of row v said side before after e f near = of-verdict v (subst (λ (s : SideData). IfAccepted (bitsIn v) (NearExact row s before after)) f (subst (λ (w : Verdict ℕ). IfAccepted w (NearExact row side before after)) e near))
+near-of row v said side before after e f near = of-verdict v (subst (λ (s : SideData). IfAccepted (bitsVerdict v) (NearExact row s before after)) f (subst (λ (w : Verdict ℕ). IfAccepted w (NearExact row side before after)) e near))
   where
-    of-verdict : (v : Verdict SideData) → IfAccepted (bitsIn v) (NearExact row (sideIn v) before after) → IfAccepted v (NearExact row (sideIn v) before after)
+    of-verdict : (v : Verdict SideData) → IfAccepted (bitsVerdict v) (NearExact row (sideIn v) before after) → IfAccepted v (NearExact row (sideIn v) before after)
     of-verdict (accepted side) near = near
     of-verdict (refused number) near = tt
     of-verdict (refusedAt number place found) near = tt
+
+-- an answer that tells what the definition says has the definition's bits
+few : (answer : Answer) (v : Verdict SideData) → bitsIn itsBits (bitsVerdict v) ≤ 168 → answer ≡ told itsBits (bitsVerdict v) → answer .bits ≤ 168
+few answer v h e = subst (λ (a : Answer). a .bits ≤ 168) (sym e) h
 
 encode-requires : tie.Need-encode-requires
 encode-requires c κs = search needs
@@ -79,9 +84,10 @@ returns c =
     let v = encodeVerdict (g .duration) (g .bandwidth) (g .bits) (g .flag) (g .lines .now) in
     let row = rowOf (durationOf (g .duration)) (g .bandwidth) in
     let door = encoded .encode .ensures in
-    let writes = refused-writes v why (said answered) (g .side .now) (g .coefficients .now) in (
-      c .refused .ensures ∙ refused-told noBits itsBits why ∙ ap (told itsBits) (said answered),
-      (door .1 .1 .0, (writes .0, (writes .1, near-of row v _ (encoded .encode .result .side) (g .lines .now) _ (door .0) (door .1 .0) (door .1 .1 .1)))),
+    let writes = refused-writes v why (said answered) (g .side .now) (g .coefficients .now) in
+    let answer = c .refused .ensures ∙ refused-told noBits itsBits why ∙ ap (told itsBits) (said answered) in (
+      answer,
+      (door .1 .1 .0, (writes .0, (writes .1, (near-of row v _ (encoded .encode .result .side) (g .lines .now) _ (door .0) (door .1 .0) (door .1 .1 .1 .0), few (c .refused .result) v (encode-at-most (g .duration) (g .bandwidth) (g .bits) (g .flag) (g .lines .now)) answer)))),
     )
 
 same-length-2 : tie.Need-same-length-2
@@ -97,9 +103,10 @@ returns-2 c =
     let v = encodeVerdict (g .duration) (g .bandwidth) (g .bits) (g .flag) (g .lines .now) in
     let row = rowOf (durationOf (g .duration)) (g .bandwidth) in
     let door = encoded .encode .ensures in
-    let writes = accepted-writes v (answered .answer2 .given .0 .0) (encoded .encode .result .side) (costs answered) (door .1 .0) (g .side .now) (g .coefficients .now) in (
-      c .accepted .ensures ∙ ap (told itsBits) (costs answered),
-      (door .1 .1 .0, (recorded .record-of .ensures ∙ writes .0, (joined .coefficients-of .ensures ∙ writes .1, near-of row v _ (encoded .encode .result .side) (g .lines .now) _ (door .0) (door .1 .0) (door .1 .1 .1)))),
+    let writes = accepted-writes v (answered .answer2 .given .0 .0) (encoded .encode .result .side) (costs answered) (door .1 .0) (g .side .now) (g .coefficients .now) in
+    let answer = c .accepted .ensures ∙ ap (told itsBits) (costs answered) in (
+      answer,
+      (door .1 .1 .0, (recorded .record-of .ensures ∙ writes .0, (joined .coefficients-of .ensures ∙ writes .1, (near-of row v _ (encoded .encode .result .side) (g .lines .now) _ (door .0) (door .1 .0) (door .1 .1 .1 .0), few (c .accepted .result) v (encode-at-most (g .duration) (g .bandwidth) (g .bits) (g .flag) (g .lines .now)) answer)))),
     )
 
 pub tns-encode-spec : {M : Type 1} → statement M

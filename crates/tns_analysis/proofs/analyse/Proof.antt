@@ -14,7 +14,7 @@ use Rattle.tns_lags.specs.Autocorrelation.{autocorrelation}
 use Rattle.tns_recursion.specs.Recursion.{predicted}
 use Rattle.tns_recursion.specs.Gain.{gainRecord}
 use Rattle.tns_reflections.specs.Reflections.{damped, reflections}
-use Rattle.tns_analysis.specs.Analysis.{recordOf, reflectionsOf}
+use Rattle.tns_analysis.specs.Analysis.{filterRecord, reflectionsOf}
 use Rattle.tns_recursion.specs.declared.gain.FilterGain.{FilterGain}
 use Rattle.tns_recursion.specs.declared.recursion.Predictor.{Predictor}
 use Rattle.tns_analysis.proofs.analyse.Statement.{statement}
@@ -22,16 +22,16 @@ use Rattle.tns_analysis.proofs.analyse.Tie as tie
 
 module _ (b : Band) (lines : List Float) (flag : Bool) (weighting : ℕ) where
   record-is : (r : List Float) (p : Predictor) (g : FilterGain) → r ≡ autocorrelation b lines → p ≡ predicted r 8
-      → g ≡ gainRecord (at r 0) (p .error) flag weighting → g ≡ recordOf b lines flag weighting
-  unfolding recordOf
+      → g ≡ gainRecord (at r 0) (p .error) flag weighting → g ≡ filterRecord b lines flag weighting
+  unfolding filterRecord
   record-is r p g er ep eg = rw (eg, ep, er)
 
-  on-is : (p : Predictor) (g : FilterGain) (x : List Float) → g ≡ recordOf b lines flag weighting → p ≡ predicted (autocorrelation b lines) 8
+  on-is : (p : Predictor) (g : FilterGain) (x : List Float) → g ≡ filterRecord b lines flag weighting → p ≡ predicted (autocorrelation b lines) 8
       → g .on ≡ true → x ≡ reflections (damped (p .row) (g .damping)) → x ≡ reflectionsOf b lines flag weighting
   unfolding reflectionsOf
   on-is p g x eg ep on ex = rw (← eg, on, ← ep) ex
 
-  off-is : (g : FilterGain) → g ≡ recordOf b lines flag weighting → g .on ≡ false → replicate 8 f0 ≡ reflectionsOf b lines flag weighting
+  off-is : (g : FilterGain) → g ≡ filterRecord b lines flag weighting → g .on ≡ false → replicate 8 f0 ≡ reflectionsOf b lines flag weighting
   unfolding reflectionsOf
   off-is g eg off = rw (← eg, off)
 

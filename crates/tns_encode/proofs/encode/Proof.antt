@@ -1,12 +1,13 @@
 -- `tns_encode::encode` meets its contract: a frame that is refused, or the definition's filters and lines.
 -- Assumes nothing.
 use mathlib.Core.Path.{_≡_, sym, _∙_, ap, subst}
+use mathlib.Core.Bool.{Bool}
 use mathlib.Core.List.{List}
-use Prim.Native.Nat.{ℕ}
+use Prim.Native.Nat.{ℕ, _≤_}
 use borrow.Author.Needs.{needs}
 use lib.Ieee.{Float}
 use lib.ListN.{length}
-use Rattle.tns_refusals.specs.Refusals.{Verdict, accepted, refused, refusedAt, says}
+use Rattle.tns_refusals.specs.Refusals.{Verdict, accepted, refused, refusedAt, bitsIn, itsBits, says}
 use Rattle.tns_refusals.specs.declared.Refusal.{Refusal}
 use Rattle.tns_refusals.proofs.Sides.{by-refusal}
 use Rattle.tns_rows.specs.Durations.{kept, durationOf, weightingOf}
@@ -17,12 +18,13 @@ use Rattle.tns_rows.specs.declared.row.Row.{Row}
 use Rattle.tns_rows.proofs.Bands.{SoundRow}
 use Rattle.tns_frames.proofs.Frames.{sound-row}
 use Rattle.tns_analysis.specs.FrameSide.{sideOf}
-use Rattle.tns_encode.specs.Encoder.{rowEncoded, weightingIn, encodeSays}
+use Rattle.tns_encode.specs.Encoder.{rowEncoded, weightingIn, encodeVerdict, bitsVerdict, encodeSays}
 use Rattle.tns_side.specs.Side.{bitsOf}
 use Rattle.tns_exact.specs.Exact.{IfAccepted, NearExact}
 use Rattle.tns_side.specs.declared.SideData.{SideData}
 use Rattle.tns_encode.proofs.Frames.{refused-call, accepted-call}
 use Rattle.tns_encode.proofs.NearFrames.{frame-near}
+use Rattle.tns_encode.proofs.Reported.{encode-at-most}
 use Rattle.tns_encode.proofs.encode.Statement.{statement}
 use Rattle.tns_encode.proofs.encode.Tie as tie
 
@@ -40,6 +42,12 @@ accepted-needs : (P : Type 0) (said : Verdict ℕ) → P → IfAccepted said P
 accepted-needs P (accepted bits) p = p
 accepted-needs P (refused number) p = tt
 accepted-needs P (refusedAt number place found) p = tt
+
+-- an answer that says what the definition does has at most 168 bits
+few : (said : Verdict ℕ) (duration bandwidth nbits : ℕ) (flag : Bool) (lines : List Float) → said ≡ bitsVerdict (encodeVerdict duration bandwidth nbits flag lines)
+    → bitsIn itsBits said ≤ 168
+few said duration bandwidth nbits flag lines e =
+    subst (λ (v : Verdict ℕ). bitsIn itsBits v ≤ 168) (sym e) (encode-at-most duration bandwidth nbits flag lines)
 
 -- the side data and the lines are the definition's
 near-of : (row : Row) (s side : SideData) (before after lines : List Float) → s ≡ side → after ≡ lines → NearExact row side before lines → NearExact row s before after
@@ -77,7 +85,8 @@ returns c =
     let call = refused-call (g .duration) (g .bandwidth) (g .nbits) (g .flag) (g .lines .now) why
     (sym (ap frameSays (frame .frame .given .1)) ∙ frame .before .before .check-frame .ensures)
     in
-    (c .refused .ensures .0 ∙ call .0, (c .refused .ensures .1 ∙ call .1, (call .2, refused-needs-none _ (encodeSays (c .refused .result .answer)) why (c .refused .ensures .0))))
+    let said = c .refused .ensures .0 ∙ call .0 in
+    (said, (c .refused .ensures .1 ∙ call .1, (call .2, (refused-needs-none _ (encodeSays (c .refused .result .answer)) why (c .refused .ensures .0), few _ (g .duration) (g .bandwidth) (g .nbits) (g .flag) (g .lines .now) said))))
 
 same-length : tie.Need-same-length
 same-length c = search needs
@@ -104,14 +113,18 @@ returns-2 c =
     let near =
     frame-near (durationOf (g .duration)) (g .bandwidth) (g .flag) (weightingIn (g .duration) (g .nbits)) xs
     (subst (λ (row : Row). SoundRow row (length xs)) (call .0) sound) (frame .before .before .before .slice-known .given)
-    in (
-      encoded .row-encoded .ensures .0 ∙ ap (λ (s : SideData). accepted (bitsOf s)) side ∙ call .1,
+    in
+    let said = encoded .row-encoded .ensures .0 ∙ ap (λ (s : SideData). accepted (bitsOf s)) side ∙ call .1 in (
+      said,
       (
         encoded .row-encoded .ensures .1 .0 ∙ side ∙ call .2,
         (
           lines ∙ call .3,
-          accepted-needs _ (encodeSays (encoded .row-encoded .result .answer))
-              (near-of (rowOf (durationOf (g .duration)) (g .bandwidth)) _ _ xs _ _ (encoded .row-encoded .ensures .1 .0 ∙ side) lines near),
+          (
+            accepted-needs _ (encodeSays (encoded .row-encoded .result .answer))
+                (near-of (rowOf (durationOf (g .duration)) (g .bandwidth)) _ _ xs _ _ (encoded .row-encoded .ensures .1 .0 ∙ side) lines near),
+            few _ (g .duration) (g .bandwidth) (g .nbits) (g .flag) xs said,
+          ),
         ),
       ),
     )

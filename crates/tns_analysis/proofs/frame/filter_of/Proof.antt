@@ -9,7 +9,7 @@ use lib.Ieee.{Float}
 use lib.ListN.{replicate}
 use Rattle.tns_rows.specs.declared.row.Band.{Band}
 use Rattle.tns_index.specs.Quantizer.{indexOf, coefficientOf, orderOf, orderFrom, notAbove, plusZero}
-use Rattle.tns_analysis.specs.Analysis.{recordOf, reflectionsOf}
+use Rattle.tns_analysis.specs.Analysis.{filterRecord, reflectionsOf}
 use Rattle.tns_recursion.specs.declared.gain.FilterGain.{FilterGain}
 use Rattle.tns_side.specs.Quantized.{quantizedOf, absent}
 use Rattle.tns_analysis.specs.FrameSide.{filterOf}
@@ -20,7 +20,7 @@ zeros-absent : absent ≡ quantizedOf (replicate 8 plusZero)
 unfolding absent quantizedOf indexOf coefficientOf orderOf orderFrom notAbove lib.Ieee.le lib.Ieee.ofBits
 zeros-absent = refl
 
-off-is : (b : Band) (lines : List Float) (flag : Bool) (weighting : ℕ) (g : FilterGain) → g ≡ recordOf b lines flag weighting → g .on ≡ false
+off-is : (b : Band) (lines : List Float) (flag : Bool) (weighting : ℕ) (g : FilterGain) → g ≡ filterRecord b lines flag weighting → g .on ≡ false
     → absent ≡ quantizedOf (reflectionsOf b lines flag weighting)
 unfolding reflectionsOf
 off-is b lines flag weighting g eg off = rw (← eg, off) zeros-absent

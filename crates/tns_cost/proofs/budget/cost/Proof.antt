@@ -1,17 +1,19 @@
 -- `tns_cost::budget::cost` meets its contract: what the shared checks refuse is refused, then a weighting over 1, and the rest has its bits.
 -- Assumes nothing.
-use mathlib.Core.Path.{_≡_, sym, _∙_, ap}
+use mathlib.Core.Path.{_≡_, sym, _∙_, ap, subst}
 use mathlib.Core.List.{List}
 use Prim.Native.Nat.{ℕ, _<_, _≤_}
-use native.Mathlib.Omega.{arith}
 use borrow.Author.Needs.{needs}
 use borrow.Author.Tests.{lt-ltb, le-ltb}
 use lib.Dec.{ltb}
-use Rattle.tns_refusals.specs.Refusals.{Verdict, accepted, noFault, refused, says, check, sideChecks, sideSays}
-use Rattle.tns_cost.specs.Cost.{costOf, countedBits}
+use Rattle.tns_refusals.specs.Refusals.{Verdict, accepted, noFault, refused, bitsIn, itsBits, says, check, sideChecks, sideSays}
+use Rattle.tns_cost.specs.Cost.{costOf, costSays, countedBits}
 use Rattle.tns_refusals.specs.declared.Refusal.{Refusal}
+use Rattle.tns_refusals.specs.declared.Refusal.the-variants.{Weighting}
+use Rattle.tns_cost.specs.declared.budget.CostAnswer.{CostAnswer}
+use Rattle.tns_cost.specs.declared.budget.CostAnswer.the-variants.{Bits, Refused}
 use Rattle.tns_refusals.proofs.Sides.{settle, settle-says, sides-settle, sound-side}
-use Rattle.tns_cost.proofs.Costs.{counted-bits-at-most}
+use Rattle.tns_cost.proofs.Costs.{cost-at-most}
 use Rattle.tns_cost.proofs.budget.cost.Statement.{statement}
 use Rattle.tns_cost.proofs.budget.cost.Tie as tie
 
@@ -47,10 +49,17 @@ enum-known-side c = search needs
 enum-told : tie.Need-enum-told
 enum-told c = search needs
 
+-- a result that says what the definition does has at most 168 bits
+few : (answer : CostAnswer) (weighting filters : ℕ) (orders indices : List ℕ) → costSays answer ≡ costOf weighting filters orders indices
+    → (costSays answer ≡ costOf weighting filters orders indices) × (bitsIn itsBits (costSays answer) ≤ 168)
+few answer weighting filters orders indices e =
+    (e, subst (λ (v : Verdict ℕ). bitsIn itsBits v ≤ 168) (sym e) (cost-at-most weighting filters orders indices))
+
 returns : tie.Need-returns
 returns c =
     let g = c .before .before .before .before .before .before .args in
-    (refused-here (g .weighting) (g .filters) (g .orders .now) (g .indices .now) (fine-at (c .before)) (c .if1 .taken), omega arith)
+    few (Refused Weighting) (g .weighting) (g .filters) (g .orders .now) (g .indices .now)
+    (refused-here (g .weighting) (g .filters) (g .orders .now) (g .indices .now) (fine-at (c .before)) (c .if1 .taken))
 
 counted-bits-requires : tie.Need-counted-bits-requires
 counted-bits-requires c κs =
@@ -59,21 +68,18 @@ counted-bits-requires c κs =
 
 returns-2 : tie.Need-returns-2
 returns-2 c =
-    let g = c .before .before .before .before .before .before .args in (
-      refused-before (g .weighting) (g .filters) (g .orders .now) (g .indices .now) (c .before .side .given .0 .0)
-          (sym (ap sideSays (c .before .side .given .1)) ∙ c .before .before .before .check-side .ensures),
-      omega arith,
-    )
+    let g = c .before .before .before .before .before .before .args in
+    let why = c .before .side .given .0 .0 in
+    few (Refused why) (g .weighting) (g .filters) (g .orders .now) (g .indices .now)
+    (refused-before (g .weighting) (g .filters) (g .orders .now) (g .indices .now) why
+    (sym (ap sideSays (c .before .side .given .1)) ∙ c .before .before .before .check-side .ensures))
 
 returns-3 : tie.Need-returns-3
 returns-3 c =
-    let start = c .before .before .before .before .before .before .before in
-    let g = start .args in
+    let g = c .before .before .before .before .before .before .before .args in
     let fine = fine-at (c .before .before) in
-    let sound = sound-side (g .filters) (g .orders .now) (g .indices .now) (sym fine) in (
-      ap accepted (c .counted-bits .ensures) ∙ has-bits (g .weighting) (g .filters) (g .orders .now) (g .indices .now) fine (c .before .if1 .left),
-      omega (arith, c .counted-bits .ensures, counted-bits-at-most (g .weighting) (g .filters) 0 (g .orders .now) (g .indices .now) (sound .orders-at-most-8), sound .count-at-most-2),
-    )
+    few (Bits (c .counted-bits .result)) (g .weighting) (g .filters) (g .orders .now) (g .indices .now)
+    (ap accepted (c .counted-bits .ensures) ∙ has-bits (g .weighting) (g .filters) (g .orders .now) (g .indices .now) fine (c .before .if1 .left))
 
 pub cost-spec : {M : Type 1} → statement M
 cost-spec =

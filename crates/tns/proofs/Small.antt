@@ -1,0 +1,106 @@
+-- What an answer holds is small. A place is at most 15. Where the caller's lists hold bytes, each of an answer's four numbers fits its 16 bits.
+-- Assumes nothing.
+use mathlib.Core.Bool.{Bool}
+use mathlib.Core.List.{List}
+use Prim.Native.Nat.{ℕ, _^_, _≤_, _<_}
+use native.Mathlib.Omega.{arith}
+use lib.Ieee.{Float}
+use lib.ListN.{length, getD}
+use Rattle.tns_refusals.specs.Refusals.{accepted, refused, refusedAt, noFault, placeIn, noBits, itsBits, sideChecks}
+use Rattle.tns_refusals.proofs.Checks.{sides-by}
+use Rattle.tns_cost.specs.Cost.{costOf}
+use Rattle.tns_cost.proofs.Costs.{cost-by, counted-at-most}
+use Rattle.tns_rows.specs.Durations.{durationOf}
+use Rattle.tns_rows.specs.Bands.{rowOf}
+use Rattle.tns_frames.proofs.Frames.{frames-by}
+use Rattle.tns_decode.specs.Decoder.{decodeChecks}
+use Rattle.tns_encode.specs.Encoder.{encodeVerdict, bitsVerdict, weightingIn}
+use Rattle.tns_encode.proofs.Reported.{reported-bits-at-most}
+use Rattle.tns.specs.Answers.{told}
+use Rattle.tns.specs.declared.Answer.{Answer}
+
+-- ---- places
+
+pub cost-place : (weighting filters : ℕ) (orders indices : List ℕ) → placeIn (costOf weighting filters orders indices) ≤ 15
+cost-place weighting filters orders indices =
+    cost-by (λ v. placeIn v ≤ 15) weighting filters orders indices
+    (omega arith)
+    (omega arith)
+    (λ place h. omega (arith, h))
+    (λ place h. omega (arith, h))
+    (omega arith)
+    (λ sound. omega arith)
+
+pub decode-place : (duration bandwidth filters : ℕ) (orders indices : List ℕ) (lines : ℕ)
+    → placeIn (decodeChecks duration bandwidth filters orders indices lines) ≤ 15
+unfolding decodeChecks
+decode-place duration bandwidth filters orders indices lines =
+    frames-by (λ v. placeIn v ≤ 15) duration bandwidth lines (sideChecks filters orders indices noFault) (omega arith) (omega arith) (omega arith)
+    (sides-by (λ v. placeIn v ≤ 15) filters orders indices noFault
+    (omega arith)
+    (omega arith)
+    (λ place h. omega (arith, h))
+    (λ place h. omega (arith, h))
+    (λ sound. omega arith))
+
+pub encode-place : (duration bandwidth bits : ℕ) (flag : Bool) (lines : List Float) → placeIn (bitsVerdict (encodeVerdict duration bandwidth bits flag lines)) ≤ 15
+unfolding encodeVerdict
+encode-place duration bandwidth bits flag lines =
+    frames-by (λ v. placeIn (bitsVerdict v) ≤ 15) duration bandwidth (length lines) _ (omega arith) (omega arith) (omega arith) (omega arith)
+
+-- ---- all four numbers
+
+pub record Small (answer : Answer) : Type 0 where
+  pub small-refusal : answer .refusal ≤ 8
+  pub small-place : answer .place ≤ 15
+  pub small-found : answer .found ≤ 255
+  pub few-bits : answer .bits ≤ 168
+
+-- so each fits its 16 bits
+pub fits : (answer : Answer) → Small answer → (answer .refusal < 2 ^ 16) × (answer .place < 2 ^ 16) × (answer .found < 2 ^ 16) × (answer .bits < 2 ^ 16)
+fits answer s = (omega (arith, s .small-refusal), omega (arith, s .small-place), omega (arith, s .small-found), omega (arith, s .few-bits))
+
+module _ {A : Type 0} (bits : A → ℕ) where
+  by-number : (number : ℕ) → number ≤ 8 → Small (told bits (refused number))
+  by-number number h = record { small-refusal = h; small-place = omega arith; small-found = omega arith; few-bits = omega arith }
+
+  at-place : (number place found : ℕ) → number ≤ 8 → place ≤ 15 → found ≤ 255 → Small (told bits (refusedAt number place found))
+  at-place number place found n p f = record { small-refusal = n; small-place = p; small-found = f; few-bits = omega arith }
+
+  with-bits : (a : A) → bits a ≤ 168 → Small (told bits (accepted a))
+  with-bits a h = record { small-refusal = omega arith; small-place = omega arith; small-found = omega arith; few-bits = h }
+
+-- of lists that hold bytes
+module _ (orders indices : List ℕ) (order-bytes : (i : ℕ) → getD orders i 0 ≤ 255) (index-bytes : (i : ℕ) → getD indices i 0 ≤ 255) where
+  pub cost-small : (weighting filters : ℕ) → Small (told itsBits (costOf weighting filters orders indices))
+  cost-small weighting filters =
+      cost-by (λ v. Small (told itsBits v)) weighting filters orders indices
+      (by-number itsBits 4 (omega arith))
+      (by-number itsBits 5 (omega arith))
+      (λ place h. at-place itsBits 6 place _ (omega arith) (omega (arith, h)) (order-bytes place))
+      (λ place h. at-place itsBits 7 place _ (omega arith) (omega (arith, h)) (index-bytes place))
+      (by-number itsBits 8 (omega arith))
+      (λ sound. with-bits itsBits _ (counted-at-most weighting filters orders indices sound))
+
+  pub decode-small : (duration bandwidth filters lines : ℕ) → Small (told noBits (decodeChecks duration bandwidth filters orders indices lines))
+  unfolding decodeChecks
+  decode-small duration bandwidth filters lines =
+      frames-by (λ v. Small (told noBits v)) duration bandwidth lines _
+      (by-number noBits 1 (omega arith))
+      (by-number noBits 2 (omega arith))
+      (by-number noBits 3 (omega arith))
+      (sides-by (λ v. Small (told noBits v)) filters orders indices noFault
+      (by-number noBits 4 (omega arith))
+      (by-number noBits 5 (omega arith))
+      (λ place h. at-place noBits 6 place _ (omega arith) (omega (arith, h)) (order-bytes place))
+      (λ place h. at-place noBits 7 place _ (omega arith) (omega (arith, h)) (index-bytes place))
+      (λ sound. with-bits noBits tt (omega arith)))
+
+pub encode-small : (duration bandwidth bits : ℕ) (flag : Bool) (lines : List Float) → Small (told itsBits (bitsVerdict (encodeVerdict duration bandwidth bits flag lines)))
+unfolding encodeVerdict
+encode-small duration bandwidth bits flag lines =
+    frames-by (λ v. Small (told itsBits (bitsVerdict v))) duration bandwidth (length lines) _
+    (by-number itsBits 1 (omega arith))
+    (by-number itsBits 2 (omega arith))
+    (by-number itsBits 3 (omega arith))
+    (with-bits itsBits _ (reported-bits-at-most (rowOf (durationOf duration) bandwidth) lines flag (weightingIn duration bits)))
