@@ -1,0 +1,51 @@
+-- Laws of a text that is put after others, piece by piece, and of a piece whose end is read anew. Assumes nothing.
+use mathlib.Core.Path.{_≡_, refl, sym, ap, _∙_}
+use mathlib.Core.List.{List, [], _∷_, _++_, append-assoc}
+use Prim.Native.Nat.{ℕ, zero, suc, _+_, _-_, _≤_, min}
+use native.Mathlib.Omega.{arith}
+use native.Mathlib.Decide.{decLt}
+use lib.ListN.{length, take}
+use borrow.Rule.Slice.PartMut.{putMid}
+use lib.Seq.{paste, take-at, take-all, take-paste, take-append-add, length-take-le, take-nil}
+use Rattle.tns_program.specs.Text.{after}
+
+-- what is taken of a list is no more than it has
+take-enough : (n : ℕ) (xs : List ℕ) → take n xs ≡ take (min (length xs) n) xs
+take-enough n xs = elim (decLt n (length xs)) [
+  | yes fewer ↦ let e : min (length xs) n ≡ n = omega arith in rw e
+  | no all ↦ take-all n xs (omega arith) ∙ sym (take-all (min (length xs) n) xs (omega arith))
+]
+
+-- a copy to a place, as much as there is room for
+pub put-there : (bytes text out : List ℕ) (at start count : ℕ) → start ≡ min at (length bytes) → count ≡ min (length text) (length bytes - start)
+    → out ≡ paste bytes start text count → take (start + count) out ≡ after (length bytes) (take at bytes) text
+put-there bytes text out at start count s n o =
+    let whole : length (take start bytes) + (length bytes - start) ≡ length bytes = omega (arith, length-take-le start bytes (omega arith)) in
+    let there : take start bytes ≡ take at bytes = ap (λ (k : ℕ). take k bytes) {x = start} {y = min (length bytes) at} (omega arith) ∙ sym (take-enough at bytes) in
+    let few : take count text ≡ take (length bytes - start) text = ap (λ (k : ℕ). take k text) n ∙ sym (take-enough (length bytes - start) text) in
+    ap (take (start + count)) o
+    ∙ take-paste bytes start text count (omega arith) (omega arith)
+    ∙ ap (λ (t : List ℕ). take start bytes ++ t) few
+    ∙ sym (take-append-add (take start bytes) text (length bytes - start))
+    ∙ ap (λ (k : ℕ). take k (take start bytes ++ text)) whole
+    ∙ ap (λ (b : List ℕ). after (length bytes) b text) there
+
+-- what is left out of a text is left out of a longer one
+take-again : (n : ℕ) (xs ys : List ℕ) → take n (take n xs ++ ys) ≡ take n (xs ++ ys)
+take-again zero xs ys = refl
+take-again (suc n) [] ys = refl
+take-again (suc n) (x ∷ xs) ys = ap (λ (r : List ℕ). x ∷ r) (take-again n xs ys)
+
+-- one text after another is both after what was there
+pub after-after : (room : ℕ) (bytes first second : List ℕ) → after room (after room bytes first) second ≡ after room bytes (first ++ second)
+after-after room bytes first second = take-again room (bytes ++ first) second ∙ ap (take room) (append-assoc bytes first second)
+
+-- the same, with the bytes in between given by name
+pub put-on : (room later : ℕ) (bytes first second between out : List ℕ) → between ≡ after room bytes first → later ≡ room → out ≡ after later between second
+    → out ≡ after room bytes (first ++ second)
+put-on room later bytes first second between out e r f =
+    f ∙ ap (λ (n : ℕ). after n between second) r ∙ ap (λ (b : List ℕ). after room b second) e ∙ after-after room bytes first second
+
+-- the bytes before a part that is read anew
+pub held-kept : (held count : ℕ) (bytes part : List ℕ) → held ≤ length bytes → take held (putMid held count bytes part) ≡ take held bytes
+held-kept held count bytes part h = take-at (take held bytes) _ held (length-take-le held bytes h)

@@ -1,0 +1,3 @@
+-- What a reader has to believe of what programs share.
+pub mod Text
+pub mod Pieces

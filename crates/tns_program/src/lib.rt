@@ -1,0 +1,15 @@
+// What every program here does alike: it reads and writes in large pieces, says on standard error what
+// fails, and says to the launcher that something did. Text is made by functions on slices, which are
+// proved; of what is read and written nothing can be.
+//
+// Assumes of the launcher (the script `tns`) that it opens descriptor 3 and ends with status 2 if
+// anything is written there. Where it is not open, nobody is told.
+mod streams;
+mod text;
+
+pub use streams::Read;
+pub use streams::keep;
+pub use streams::read_after;
+pub use streams::write;
+pub use text::put;
+pub use text::put_decimal;

@@ -1,0 +1,70 @@
+// Standard input and output in large pieces. Assumes nothing.
+use libc::STDIN_FILENO;
+use libc::STDOUT_FILENO;
+ghost use mathlib.Core.Path.{_≡_};
+ghost use Prim.Native.Nat.{_+_, _≤_};
+ghost use lib.ListN.{length, take, drop};
+ghost use Rattle.tns_program.specs.Pieces.{Within};
+
+// The descriptor that the launcher opens for a program to say that something failed.
+const LAUNCHER: i32 = 3;
+
+// What one read gives: bytes, one at least; the end of input; or nothing, since it failed.
+pub enum Read {
+    Bytes(usize),
+    End,
+    Failed,
+}
+
+// Says what failed, and the system's reason, and that the launcher's status is 2.
+fn failed(what: &[u8]) {
+    os::fail(what);
+    io::write_all(LAUNCHER, b"2");
+}
+
+// One read of standard input, into `piece` after its first `held` bytes, which it leaves alone. A
+// failure is said at once.
+pub fn read_after(piece: &mut [u8], held: usize) -> Read
+    ensures { λ r. ⌜ Within held (length (now (piece .exit))) r ⌝ }
+    ensures { λ _. ⌜ take held (now (piece .exit)) ≡ take held (now (piece .entry)) ⌝ }
+{
+    if held >= piece.len() {
+        return Read::End;
+    }
+    let got = libc::read(STDIN_FILENO, &mut piece[held..]);
+    if got < 0 {
+        failed(b"tns: standard input");
+        return Read::Failed;
+    }
+    let count = io::count(got, &piece[held..]);
+    if count == 0 {
+        return Read::End;
+    }
+    Read::Bytes(count)
+}
+
+// Moves `count` bytes from `from` on to the start of `piece`: those that wait for more to be read.
+pub fn keep(piece: &mut [u8], from: usize, count: usize)
+    ensures { λ _. ⌜ (from + count ≤ length (now (piece .entry)) → take count (now (piece .exit)) ≡ take count (drop from (now (piece .entry)))) ⌝ }
+{
+    if from > piece.len() {
+        return;
+    }
+    if count > piece.len() - from {
+        return;
+    }
+    let mut i = 0;
+    while i < count {
+        piece[i] = piece[from + i];
+        i += 1;
+    }
+}
+
+// Writes all of a text to standard output, and answers whether it could. A failure is said at once.
+pub fn write(text: &[u8]) -> bool {
+    let is_written = io::write_all(STDOUT_FILENO, text);
+    if !is_written {
+        failed(b"tns: standard output");
+    }
+    is_written
+}
