@@ -1,72 +1,92 @@
 // Reads 20-byte records of side data from standard input until it ends, and writes a line for each:
-// the bits that it costs, or why it is refused. Everything that decides is in `tns_cost`; what is
-// read and written here is tested and not proved.
-use libc::STDIN_FILENO;
-use libc::STDOUT_FILENO;
-use tns_cost::CostAnswer;
-use tns_cost::RecordAnswer;
-use tns_refusals::Refusal;
+// the bits that it costs, or why it is refused. The lines of the records read are proved to be those
+// of document 01; that they are read and written is tested. What was read before input ends or fails
+// is answered. Assumes nothing.
+mod lines;
 
-fn put(text: &[u8]) -> bool {
-    io::write_all(STDOUT_FILENO, text)
+use lines::put_line;
+use lines::put_lines;
+use tns_program::Read;
+use tns_program::keep;
+use tns_program::read_after;
+use tns_program::write;
+ghost use mathlib.Core.Path.{_≡_};
+ghost use Prim.Native.Nat.{_+_, _*_, _≤_, _<_};
+ghost use lib.ListN.{length};
+
+// Where the program stands between two reads: the next frame's number, how many bytes of a record not
+// yet whole are held at the start of the piece, and whether there is more to do.
+struct Standing {
+    frame: u64,
+    held: usize,
+    goes_on: bool,
 }
 
-// Document 01's number, and the place where the refusal has one.
-fn put_refusal(why: Refusal) -> bool {
-    put(b"refused ");
-    io::print_decimal(STDOUT_FILENO, why.number() as u64);
-    match why {
-        Refusal::Order { place, found: _ } => {
-            put(b" at ");
-            io::print_decimal(STDOUT_FILENO, place as u64);
-        }
-        Refusal::Index { place, found: _ } => {
-            put(b" at ");
-            io::print_decimal(STDOUT_FILENO, place as u64);
-        }
-        _ => {}
+// Input has ended, or failed: what is held is a record cut short.
+fn end(input: &[u8], frame: u64, held: usize, output: &mut [u8]) -> Standing
+    requires { ⌜ held ≤ length (now input) ⌝ }
+    ensures { λ r. ⌜ (r .frame ≡ frame) × (r .held ≡ 0) ⌝ }
+{
+    if held > 0 {
+        let count = put_line(frame, &input[..held], output, 0);
+        write(&output[..count]);
     }
-    put(b"\n")
-}
-
-fn put_cost(answer: CostAnswer) -> bool {
-    match answer {
-        CostAnswer::Bits(bits) => {
-            io::print_decimal(STDOUT_FILENO, bits as u64);
-            put(b" bits\n")
-        }
-        CostAnswer::Refused(why) => put_refusal(why),
-    }
-}
-
-// One frame, and whether another can follow: not once input has ended or output fails.
-fn frame_done(frame: u64) -> bool {
-    let mut record = [0u8; 20];
-    let got = io::read_full(STDIN_FILENO, &mut record);
-    if got == 0 {
-        return false;
-    }
-    put(b"frame ");
-    io::print_decimal(STDOUT_FILENO, frame);
-    put(b": ");
-    let answer = tns_cost::record_cost(&record[..got]);
-    match answer {
-        RecordAnswer::Short => {
-            put(b"short\n");
-            false
-        }
-        RecordAnswer::Whole(cost) => put_cost(cost),
+    Standing {
+        frame,
+        held: 0,
+        goes_on: false,
     }
 }
 
-// The frame's number counts the turns, so that they end.
-fn frames() {
-    let mut frame = 0u64;
-    while frame < u64::MAX && frame_done(frame) {
-        frame += 1;
+// Answers the whole records of the first `read` bytes, and keeps what is left of them.
+fn answer(input: &mut [u8], frame: u64, read: usize, output: &mut [u8]) -> Standing
+    requires { ⌜ read ≤ 16000 ⌝ }
+    requires { ⌜ 16000 ≤ length (now input) ⌝ }
+    requires { ⌜ frame < 9223372036854775808 ⌝ }
+    ensures { λ r. ⌜ (r .frame ≤ frame + 800) × (r .held < 20) ⌝ }
+{
+    let records = read / 20;
+    let whole = records * 20;
+    let count = put_lines(frame, input, records, output);
+    let goes_on = write(&output[..count]);
+    let held = read - whole;
+    keep(input, whole, held);
+    Standing {
+        frame: frame + records as u64,
+        held,
+        goes_on,
     }
 }
 
+// One read, and what there is to answer after it.
+fn piece(input: &mut [u8], standing: Standing, output: &mut [u8]) -> Standing
+    requires { ⌜ 16000 ≡ length (now input) ⌝ }
+    requires { ⌜ standing .held < 20 ⌝ }
+    requires { ⌜ standing .frame < 9223372036854775808 ⌝ }
+    ensures { λ r. ⌜ (r .frame ≤ standing .frame + 800) × (r .held < 20) ⌝ }
+{
+    let held = standing.held;
+    let got = read_after(input, held);
+    match got {
+        Read::Bytes(count) => answer(input, standing.frame, held + count, output),
+        Read::End => end(input, standing.frame, held, output),
+        Read::Failed => end(input, standing.frame, held, output),
+    }
+}
+
+// A piece of input has 800 records, whose lines fit a piece of output whatever they say. The turns are
+// counted down from a number that no run uses up, so that the loop ends.
 fn main() {
-    frames();
+    let mut input = [0u8; 16000];
+    let mut output = [0u8; 65536];
+    let mut standing = Standing {
+        frame: 0,
+        held: 0,
+        goes_on: true,
+    };
+    let mut turns = 0x20_0000_0000_0000u64;
+    while turns > 0 && standing.goes_on {
+        standing = piece(&mut input, standing, &mut output);
+        turns -= 1;
+    }
 }

@@ -19,6 +19,7 @@ take-enough n xs = elim (decLt n (length xs)) [
 -- a copy to a place, as much as there is room for
 pub put-there : (bytes text out : List ℕ) (at start count : ℕ) → start ≡ min at (length bytes) → count ≡ min (length text) (length bytes - start)
     → out ≡ paste bytes start text count → take (start + count) out ≡ after (length bytes) (take at bytes) text
+unfolding after
 put-there bytes text out at start count s n o =
     let whole : length (take start bytes) + (length bytes - start) ≡ length bytes = omega (arith, length-take-le start bytes (omega arith)) in
     let there : take start bytes ≡ take at bytes = ap (λ (k : ℕ). take k bytes) {x = start} {y = min (length bytes) at} (omega arith) ∙ sym (take-enough at bytes) in
@@ -38,12 +39,13 @@ take-again (suc n) (x ∷ xs) ys = ap (λ (r : List ℕ). x ∷ r) (take-again n
 
 -- one text after another is both after what was there
 pub after-after : (room : ℕ) (bytes first second : List ℕ) → after room (after room bytes first) second ≡ after room bytes (first ++ second)
+unfolding after
 after-after room bytes first second = take-again room (bytes ++ first) second ∙ ap (take room) (append-assoc bytes first second)
 
 -- the same, with the bytes in between given by name
-pub put-on : (room later : ℕ) (bytes first second between out : List ℕ) → between ≡ after room bytes first → later ≡ room → out ≡ after later between second
-    → out ≡ after room bytes (first ++ second)
-put-on room later bytes first second between out e r f =
+pub put-on : (room later : ℕ) (bytes first second between out : List ℕ) → between ≡ after room bytes first → out ≡ after later between second
+    → later ≡ room → out ≡ after room bytes (first ++ second)
+put-on room later bytes first second between out e f r =
     f ∙ ap (λ (n : ℕ). after n between second) r ∙ ap (λ (b : List ℕ). after room b second) e ∙ after-after room bytes first second
 
 -- the bytes before a part that is read anew

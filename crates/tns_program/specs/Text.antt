@@ -23,5 +23,5 @@ unfolding decimalIn
 decimal n = decimalIn 20 n
 
 -- a text after some bytes, where there is room for so many in all: what is beyond is left out
-abbrev pub after : ℕ → List ℕ → List ℕ → List ℕ
+unfoldable pub after : ℕ → List ℕ → List ℕ → List ℕ
 after room bytes text = take room (bytes ++ text)

@@ -1,0 +1,99 @@
+-- `tns_bits::lines::put_lines` meets its contract: a line for each record, each after those before it.
+-- Assumes nothing.
+use mathlib.Core.Path.{_≡_, refl, sym, ap, _∙_}
+use mathlib.Core.List.{List, []}
+use Prim.Native.Nat.{ℕ, zero, suc, _+_, _-_, _*_, _≤_}
+use native.Mathlib.Omega.{arith}
+use native.Mathlib.Numerals.{add-one}
+use borrow.Author.Needs.{needs}
+use lib.ListN.{length, take}
+use Rattle.io.specs.Counts.{Counts}
+use Rattle.io.proofs.Counting.{counts}
+use Rattle.tns_cost.specs.Records.{lineOf}
+use Rattle.tns_program.specs.Text.{after}
+use Rattle.tns_program.proofs.Texts.{put-on}
+use Rattle.tns_bits.specs.Lines.{lineText, record20, linesText}
+use Rattle.tns_bits.proofs.Sayings.{no-lines, its-record, one-more}
+use Rattle.tns_bits.proofs.lines.put_lines.Statement.{statement}
+use Rattle.tns_bits.proofs.lines.put_lines.Tie as tie
+
+abbrev Inv-loop : tie.InvT-loop
+Inv-loop frame bytes count out₀ at₀ from₀ k₀ out at from k =
+    (length out ≡ length out₀) × (k ≤ count) × (from ≡ 20 * k) × Counts at out × (take at out ≡ after (length out₀) [] (linesText frame bytes k))
+
+abbrev μ-loop : tie.MeasureT-loop
+μ-loop frame bytes count out₀ at₀ from₀ k₀ out at from k = count - k
+
+loop-holds : tie.Need-loop-holds Inv-loop μ-loop
+loop-holds c =
+    let g = c .before .before .args in
+    (refl, omega arith, refl, (omega arith, refl), no-lines (length (g .out .now)) (g .frame) (g .bytes .now))
+
+add-end : tie.Need-add-end Inv-loop μ-loop
+add-end c = omega arith
+
+add-put-line : tie.Need-add-put-line Inv-loop μ-loop
+add-put-line c = omega arith
+
+sub-put-line : tie.Need-sub-put-line Inv-loop μ-loop
+sub-put-line c = omega arith
+
+part-put-line-start : tie.Need-part-put-line-start Inv-loop μ-loop
+part-put-line-start c = omega arith
+
+part-put-line-end : tie.Need-part-put-line-end Inv-loop μ-loop
+part-put-line-end c = omega arith
+
+put-line-requires : tie.Need-put-line-requires Inv-loop μ-loop
+put-line-requires c κs = search needs
+
+add-k : tie.Need-add-k Inv-loop μ-loop
+add-k c = omega arith
+
+loop-less : tie.Need-loop-less Inv-loop μ-loop
+loop-less c = omega arith
+
+loop-again : tie.Need-loop-again Inv-loop μ-loop
+loop-again c =
+    let put = c .before .before in
+    let l = put .before .before .before .before .loop in
+    let g = put .before .before .before .before .before .before .before .args in
+    let room = length (g .out .now) in
+    let lines = linesText (g .frame) (g .bytes .now) (l .k) in
+    let line = lineText (g .frame + l .k) (lineOf (record20 (g .bytes .now) (l .k))) in
+    let here = ap (λ (b : List ℕ). after (length (l .out)) (take (l .at) (l .out)) (lineText (g .frame + l .k) (lineOf b))) (its-record (g .bytes .now) (l .from) (l .k) (l .inv .2)) in (
+      omega arith,
+      omega arith,
+      omega arith,
+      put .put-line .ensures .0,
+      put-on room (length (l .out)) [] lines line _ _ (l .inv .4) (put .put-line .ensures .1 ∙ here) (l .inv .0) ∙ one-more room (g .frame) (l .k) (g .bytes .now),
+    )
+
+same-length : tie.Need-same-length Inv-loop μ-loop
+same-length c = omega arith
+
+returns : tie.Need-returns Inv-loop μ-loop
+returns c =
+    let l = c .before .loop in
+    let g = c .before .before .before .before .args in
+    let all : l .k ≡ g .count = omega arith in
+    (l .inv .3, l .inv .4 ∙ ap (λ (n : ℕ). after (length (g .out .now)) [] (linesText (g .frame) (g .bytes .now) n)) all)
+
+pub put-lines-spec : {M : Type 1} → statement M
+put-lines-spec =
+    tie.close
+    (tie.spec
+    Inv-loop
+    μ-loop
+    loop-holds
+    add-end
+    add-put-line
+    sub-put-line
+    part-put-line-start
+    part-put-line-end
+    put-line-requires
+    add-k
+    loop-less
+    loop-again
+    same-length
+    returns)

@@ -1,0 +1,35 @@
+-- `tns_bits::lines::put_number` meets its contract.
+-- Assumes nothing.
+use native.Mathlib.Omega.{arith}
+use lib.ListN.{length, take}
+use Rattle.tns_program.specs.Text.{ascii, decimal}
+use Rattle.tns_program.proofs.Texts.{put-on}
+use borrow.Author.Needs.{needs}
+use Rattle.tns_bits.proofs.lines.put_number.Statement.{statement}
+use Rattle.tns_bits.proofs.lines.put_number.Tie as tie
+
+slice-aggregate-put : tie.Need-slice-aggregate-put
+slice-aggregate-put c = search needs
+
+put-requires : tie.Need-put-requires
+put-requires c κs = search needs
+
+put-decimal-requires : tie.Need-put-decimal-requires
+put-decimal-requires c κs = search needs
+
+same-length : tie.Need-same-length
+same-length c = search needs
+
+returns : tie.Need-returns
+returns c =
+    let number = c .before .before in
+    let word = number .before .before .before .before in
+    let g = word .before .before .before .before .args in (
+      number .put-decimal .ensures .0,
+      put-on (length (g .out .now)) _ (take (g .at) (g .out .now)) (ascii "refused ") (decimal (g .number)) _ _ (word .put .ensures .1) (number .put-decimal .ensures .1)
+          (omega arith),
+    )
+
+pub put-number-spec : {M : Type 1} → statement M
+put-number-spec =
+    tie.close (tie.spec slice-aggregate-put put-requires put-decimal-requires same-length returns)

@@ -1,0 +1,54 @@
+-- `tns_bits::lines::put_place` meets its contract.
+-- Assumes nothing.
+use mathlib.Core.List.{_++_}
+use native.Mathlib.Omega.{arith}
+use lib.ListN.{length, take}
+use Rattle.tns_program.specs.Text.{ascii, decimal}
+use Rattle.tns_program.proofs.Texts.{put-on}
+use Rattle.tns_refusals.specs.Refusals.{refused}
+use Rattle.tns_bits.specs.Lines.{answerText}
+use borrow.Author.Needs.{needs}
+use Rattle.tns_bits.proofs.lines.put_place.Statement.{statement}
+use Rattle.tns_bits.proofs.lines.put_place.Tie as tie
+
+put-number-requires : tie.Need-put-number-requires
+put-number-requires c κs = search needs
+
+slice-aggregate-put : tie.Need-slice-aggregate-put
+slice-aggregate-put c = search needs
+
+put-requires : tie.Need-put-requires
+put-requires c κs = search needs
+
+put-decimal-requires : tie.Need-put-decimal-requires
+put-decimal-requires c κs = search needs
+
+same-length : tie.Need-same-length
+same-length c = search needs
+
+returns : tie.Need-returns
+returns c =
+    let place = c .before .before in
+    let word = place .before .before .before .before in
+    let number = word .before .before .before .before .before in
+    let g = number .before .before .before .args in
+    let room = length (g .out .now) in
+    let bytes = take (g .at) (g .out .now) in
+    let numbered = answerText (refused (g .number)) in (
+      place .put-decimal .ensures .0,
+      put-on room _ bytes (numbered ++ ascii " at ") (decimal (g .place)) _ _
+          (put-on room _ bytes numbered (ascii " at ") _ _ (number .put-number .ensures .1) (word .put .ensures .1) (omega arith))
+          (place .put-decimal .ensures .1)
+          (omega arith),
+    )
+
+pub put-place-spec : {M : Type 1} → statement M
+put-place-spec =
+    tie.close
+    (tie.spec
+    put-number-requires
+    slice-aggregate-put
+    put-requires
+    put-decimal-requires
+    same-length
+    returns)

@@ -1,0 +1,88 @@
+-- `tns_bits::lines::put_refusal` meets its contract: each refusal with its place, or after its number.
+-- Assumes nothing.
+use mathlib.Core.Path.{ap, _∙_}
+use lib.ListN.{length, take}
+use Rattle.tns_program.specs.Text.{after}
+use Rattle.tns_bits.proofs.Sayings.{of-order, of-index, without-place}
+use borrow.Author.Needs.{needs}
+use Rattle.tns_bits.proofs.lines.put_refusal.Statement.{statement}
+use Rattle.tns_bits.proofs.lines.put_refusal.Tie as tie
+
+number-requires : tie.Need-number-requires
+number-requires c κs = search needs
+
+enum-known-why : tie.Need-enum-known-why
+enum-known-why c = search needs
+
+put-place-requires : tie.Need-put-place-requires
+put-place-requires c κs = search needs
+
+enum-known-why-2 : tie.Need-enum-known-why-2
+enum-known-why-2 c = search needs
+
+put-place-requires-2 : tie.Need-put-place-requires-2
+put-place-requires-2 c κs = search needs
+
+put-number-requires : tie.Need-put-number-requires
+put-number-requires c κs = search needs
+
+same-length : tie.Need-same-length
+same-length c = search needs
+
+returns : tie.Need-returns
+returns c =
+    let placed = c .before .before in
+    let matched = placed .before .before .before in
+    let called = matched .before .before in
+    let g = called .before .before .args in
+    let order = matched .why .given .0 in (
+      placed .put-place .ensures .0,
+      placed .put-place .ensures .1
+          ∙ ap (after (length (g .out .now)) (take (g .at) (g .out .now))) (of-order (called .number .result) (order .0) (order .1 .0) (g .why) (matched .why .given .1) (called .number .ensures)),
+    )
+
+same-length-2 : tie.Need-same-length-2
+same-length-2 c = search needs
+
+returns-2 : tie.Need-returns-2
+returns-2 c =
+    let placed = c .before .before in
+    let matched = placed .before .before .before in
+    let called = matched .before .before in
+    let g = called .before .before .args in
+    let index = matched .why2 .given .0 in (
+      placed .put-place2 .ensures .0,
+      placed .put-place2 .ensures .1
+          ∙ ap (after (length (g .out .now)) (take (g .at) (g .out .now))) (of-index (called .number .result) (index .0) (index .1 .0) (g .why) (matched .why2 .given .1) (called .number .ensures)),
+    )
+
+same-length-3 : tie.Need-same-length-3
+same-length-3 c = search needs
+
+returns-3 : tie.Need-returns-3
+returns-3 c =
+    let numbered = c .before .before in
+    let matched = numbered .before .before in
+    let called = matched .before in
+    let g = called .before .before .args in (
+      numbered .put-number .ensures .0,
+      numbered .put-number .ensures .1
+          ∙ ap (after (length (g .out .now)) (take (g .at) (g .out .now))) (without-place (called .number .result) (g .why) (matched .match .keys3) (called .number .ensures)),
+    )
+
+pub put-refusal-spec : {M : Type 1} → statement M
+put-refusal-spec =
+    tie.close
+    (tie.spec
+    number-requires
+    enum-known-why
+    put-place-requires
+    enum-known-why-2
+    put-place-requires-2
+    put-number-requires
+    same-length
+    returns
+    same-length-2
+    returns-2
+    same-length-3
+    returns-3)

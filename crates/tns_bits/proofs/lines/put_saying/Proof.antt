@@ -1,0 +1,71 @@
+-- `tns_bits::lines::put_saying` meets its contract: that the bytes are too few, or what the cost call answers.
+-- Assumes nothing.
+use mathlib.Core.Path.{ap, sym, _∙_}
+use lib.ListN.{length, take}
+use Rattle.tns_program.specs.Text.{after}
+use Rattle.tns_cost.specs.Records.{Line, recordSays}
+use Rattle.tns_bits.specs.Lines.{sayingText}
+use borrow.Author.Needs.{needs}
+use Rattle.tns_bits.proofs.lines.put_saying.Statement.{statement}
+use Rattle.tns_bits.proofs.lines.put_saying.Tie as tie
+
+record-cost-requires : tie.Need-record-cost-requires
+record-cost-requires c κs = search needs
+
+enum-told : tie.Need-enum-told
+enum-told c = search needs
+
+slice-aggregate-put : tie.Need-slice-aggregate-put
+slice-aggregate-put c = search needs
+
+put-requires : tie.Need-put-requires
+put-requires c κs = search needs
+
+enum-known-answer : tie.Need-enum-known-answer
+enum-known-answer c = search needs
+
+put-cost-requires : tie.Need-put-cost-requires
+put-cost-requires c κs = search needs
+
+same-length : tie.Need-same-length
+same-length c = search needs
+
+returns : tie.Need-returns
+returns c =
+    let word = c .before .before in
+    let matched = word .before .before .before in
+    let called = matched .before .before in
+    let g = called .before .before .before .args in (
+      word .put .ensures .0,
+      word .put .ensures .1
+          ∙ ap (λ (l : Line). after (length (g .out .now)) (take (g .at) (g .out .now)) (sayingText l)) (sym (ap recordSays (matched .enum-told .given .1)) ∙ called .record-cost .ensures),
+    )
+
+same-length-2 : tie.Need-same-length-2
+same-length-2 c = search needs
+
+returns-2 : tie.Need-returns-2
+returns-2 c =
+    let put = c .before .before in
+    let matched = put .before .before .before in
+    let called = matched .before .before in
+    let g = called .before .before .before .args in (
+      put .put-cost .ensures .0,
+      put .put-cost .ensures .1
+          ∙ ap (λ (l : Line). after (length (g .out .now)) (take (g .at) (g .out .now)) (sayingText l)) (sym (ap recordSays (matched .answer .given .1)) ∙ called .record-cost .ensures),
+    )
+
+pub put-saying-spec : {M : Type 1} → statement M
+put-saying-spec =
+    tie.close
+    (tie.spec
+    record-cost-requires
+    enum-told
+    slice-aggregate-put
+    put-requires
+    enum-known-answer
+    put-cost-requires
+    same-length
+    returns
+    same-length-2
+    returns-2)
