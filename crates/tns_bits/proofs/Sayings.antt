@@ -6,16 +6,17 @@ use Prim.Native.Nat.{ℕ, zero, suc, _+_, _-_, _*_, _≤_}
 use native.Mathlib.Numerals.{add-one}
 use native.Mathlib.Omega.{arith}
 use lib.ListN.{length, length-append, take, drop}
-use lib.Seq.{take-nil}
+use lib.Seq.{take-nil, take-all}
 use denote.Enum.Declared.{tagOf}
 use types.Run.{OneOf, miss}
-use Rattle.tns_refusals.specs.Refusals.{refused, refusedAt, numberIn, says}
+use Rattle.tns_refusals.specs.Refusals.{Verdict, accepted, refused, refusedAt, numberIn, says}
 use Rattle.tns_refusals.specs.declared.Refusal.{Refusal}
 use Rattle.tns_refusals.specs.declared.Refusal.the-variants.{Duration, Bandwidth, SpectrumLength, ListLength, FilterCount, Order, Index, Weighting}
 use Rattle.tns_refusals.proofs.Refusal.{the-type}
-use Rattle.tns_cost.specs.Records.{lineOf}
-use Rattle.tns_program.specs.Text.{after}
-use Rattle.tns_bits.specs.Lines.{answerText, lineText, record20, linesText}
+use Rattle.tns_cost.specs.Records.{Line, short, costs, lineOf}
+use Rattle.tns_program.specs.Text.{ascii, decimal, after}
+use Rattle.tns_program.proofs.Decimals.{decimal-at-most}
+use Rattle.tns_bits.specs.Lines.{answerText, sayingText, lineText, record20, linesText}
 
 -- a refusal of an order or an index ends with its place, and what was found there is not said
 pub of-order : (number place found : ℕ) (why : Refusal) → why ≡ Order place found → number ≡ numberIn (says {A = Unit {0}} why) → answerText (refusedAt number place 0) ≡ answerText (says why)
@@ -49,3 +50,50 @@ pub one-more : (room frame k : ℕ) (bytes : List ℕ)
     → after room [] (linesText frame bytes k ++ lineText (frame + k) (lineOf (record20 bytes k))) ≡ after room [] (linesText frame bytes (k + 1))
 unfolding linesText
 one-more room frame k bytes = ap (λ (n : ℕ). after room [] (linesText frame bytes n)) (sym (add-one k))
+
+-- ---- the lines of 800 records fit 65,536 bytes
+
+answer-at-most : (verdict : Verdict ℕ) → length (answerText verdict) ≤ 52
+answer-at-most (accepted bits) = omega (arith, length-append (decimal bits) (ascii " bits"), decimal-at-most bits)
+answer-at-most (refused number) = omega (arith, length-append (ascii "refused ") (decimal number), decimal-at-most number)
+answer-at-most (refusedAt number place found) =
+    omega (
+      arith,
+      length-append (ascii "refused " ++ decimal number ++ ascii " at ") (decimal place),
+      length-append (ascii "refused " ++ decimal number) (ascii " at "),
+      length-append (ascii "refused ") (decimal number),
+      decimal-at-most number,
+      decimal-at-most place,
+    )
+
+saying-at-most : (line : Line) → length (sayingText line) ≤ 52
+saying-at-most short = omega arith
+saying-at-most (costs verdict) = answer-at-most verdict
+
+line-at-most : (frame : ℕ) (line : Line) → length (lineText frame line) ≤ 81
+line-at-most frame line =
+    omega (
+      arith,
+      length-append (ascii "frame " ++ decimal frame ++ ascii ": " ++ sayingText line) (ascii "\n"),
+      length-append (ascii "frame " ++ decimal frame ++ ascii ": ") (sayingText line),
+      length-append (ascii "frame " ++ decimal frame) (ascii ": "),
+      length-append (ascii "frame ") (decimal frame),
+      decimal-at-most frame,
+      saying-at-most line,
+    )
+
+lines-at-most : (frame : ℕ) (bytes : List ℕ) (k : ℕ) → length (linesText frame bytes k) ≤ 81 * k
+unfolding linesText
+lines-at-most frame bytes zero = omega arith
+lines-at-most frame bytes (suc k) =
+    omega (
+      arith,
+      length-append (linesText frame bytes k) (lineText (frame + k) (lineOf (record20 bytes k))),
+      lines-at-most frame bytes k,
+      line-at-most (frame + k) (lineOf (record20 bytes k)),
+    )
+
+-- so nothing of them is left out
+pub all-lines : (room frame : ℕ) (bytes : List ℕ) (k : ℕ) → 81 * k ≤ room → after room [] (linesText frame bytes k) ≡ linesText frame bytes k
+unfolding after
+all-lines room frame bytes k h = take-all room (linesText frame bytes k) (omega (arith, lines-at-most frame bytes k))

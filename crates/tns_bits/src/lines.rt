@@ -6,7 +6,6 @@ use tns_program::put_decimal;
 use tns_refusals::Refusal;
 ghost use mathlib.Core.Path.{_≡_};
 ghost use Prim.Native.Nat.{_+_, _*_, _≤_, _<_};
-ghost use mathlib.Core.List.{[]};
 ghost use lib.ListN.{length, take};
 ghost use Rattle.io.specs.Counts.{Counts};
 ghost use Rattle.tns_refusals.specs.Refusals.{refused, refusedAt, says};
@@ -81,12 +80,14 @@ pub fn put_line(frame: u64, bytes: &[u8], out: &mut [u8], at: usize) -> usize
     put(b"\n", out, said)
 }
 
-// The lines of the first `count` records of some bytes, from a frame's number on.
+// The lines of the first `count` records of some bytes, from a frame's number on. No line is longer
+// than 81 bytes.
 pub fn put_lines(frame: u64, bytes: &[u8], count: usize, out: &mut [u8]) -> usize
     requires { ⌜ 20 * count ≤ length (now bytes) ⌝ }
+    requires { ⌜ 81 * count ≤ length (now out) ⌝ }
     requires { ⌜ frame + count < 18446744073709551616 ⌝ }
     ensures { λ r. ⌜ Counts r (now (out .exit)) ⌝ }
-    ensures { λ r. ⌜ take r (now (out .exit)) ≡ after (length (now (out .entry))) [] (linesText frame (now (bytes .entry)) count) ⌝ }
+    ensures { λ r. ⌜ take r (now (out .exit)) ≡ linesText frame (now (bytes .entry)) count ⌝ }
 {
     let mut at = 0;
     let mut from = 0usize;

@@ -42,6 +42,7 @@ fn end(input: &[u8], frame: u64, held: usize, output: &mut [u8]) -> Standing
 fn answer(input: &mut [u8], frame: u64, read: usize, output: &mut [u8]) -> Standing
     requires { ⌜ read ≤ 16000 ⌝ }
     requires { ⌜ 16000 ≤ length (now input) ⌝ }
+    requires { ⌜ 65536 ≡ length (now output) ⌝ }
     requires { ⌜ frame < 9223372036854775808 ⌝ }
     ensures { λ r. ⌜ (r .frame ≤ frame + 800) × (r .held < 20) ⌝ }
 {
@@ -61,6 +62,7 @@ fn answer(input: &mut [u8], frame: u64, read: usize, output: &mut [u8]) -> Stand
 // One read, and what there is to answer after it.
 fn piece(input: &mut [u8], standing: Standing, output: &mut [u8]) -> Standing
     requires { ⌜ 16000 ≡ length (now input) ⌝ }
+    requires { ⌜ 65536 ≡ length (now output) ⌝ }
     requires { ⌜ standing .held < 20 ⌝ }
     requires { ⌜ standing .frame < 9223372036854775808 ⌝ }
     ensures { λ r. ⌜ (r .frame ≤ standing .frame + 800) × (r .held < 20) ⌝ }

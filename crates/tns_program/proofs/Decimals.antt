@@ -1,11 +1,14 @@
--- The digits that `io::decimal` writes are the decimal of the definition. Assumes nothing.
+-- The digits that `io::decimal` writes are the decimal of the definition, which has twenty at most. Assumes nothing.
 use mathlib.Core.Path.{_≡_, ap, _∙_, subst}
+use mathlib.Core.Bool.{Bool, true, false, cond}
 use mathlib.Core.List.{List, [], _∷_, _++_}
 use Prim.Native.Nat.{ℕ, zero, suc, _+_, _-_, _/_, _%_, _^_, _≤_, _<_}
 use native.Mathlib.Nat.{pow-suc, pow-le-pow-right, one-le-pow}
 use native.Mathlib.Decide.{decLt}
 use native.Mathlib.Omega.{arith}
+use lib.Dec.{ltb}
 use borrow.Author.Tests.{lt-ltb, le-ltb}
+use lib.ListN.{length, length-append}
 use Rattle.io.specs.Digits.{digits, Fewest, glyph}
 use Rattle.tns_program.specs.Text.{decimalIn, decimal}
 
@@ -53,3 +56,16 @@ pub decimal-digits : (k n : ℕ) → n < 2 ^ 64 → Fewest 10 1 n k → digits 1
 unfolding decimal
 decimal-digits zero n h f = absurd (omega (arith, f .0))
 decimal-digits (suc k) n h f = by-digits k 20 n f (at-most-20 k n h f)
+
+digits-at-most : (digits n : ℕ) → length (decimalIn digits n) ≤ digits
+unfolding decimalIn
+digits-at-most zero n = omega arith
+digits-at-most (suc digits) n = either (ltb n 10) (digits-at-most digits (n / 10))
+  where
+    either : (b : Bool) → length (decimalIn digits (n / 10)) ≤ digits → length (cond b ((48 + n) ∷ []) (decimalIn digits (n / 10) ++ ((48 + n % 10) ∷ []))) ≤ suc digits
+    either true h = omega arith
+    either false h = omega (arith, length-append (decimalIn digits (n / 10)) ((48 + n % 10) ∷ []), h)
+
+pub decimal-at-most : (n : ℕ) → length (decimal n) ≤ 20
+unfolding decimal
+decimal-at-most n = digits-at-most 20 n

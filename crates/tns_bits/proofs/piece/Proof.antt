@@ -29,7 +29,7 @@ add-answer : tie.Need-add-answer
 add-answer c = omega (arith, read-within (c .before .before) .1)
 
 answer-requires : tie.Need-answer-requires
-answer-requires c κs = (omega (arith, read-within (c .before .before .before) .1), (omega arith, omega arith))
+answer-requires c κs = (omega (arith, read-within (c .before .before .before) .1), (omega arith, (omega arith, omega arith)))
 
 enum-told : tie.Need-enum-told
 enum-told c = search needs

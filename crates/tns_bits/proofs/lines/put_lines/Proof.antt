@@ -13,7 +13,7 @@ use Rattle.tns_cost.specs.Records.{lineOf}
 use Rattle.tns_program.specs.Text.{after}
 use Rattle.tns_program.proofs.Texts.{put-on}
 use Rattle.tns_bits.specs.Lines.{lineText, record20, linesText}
-use Rattle.tns_bits.proofs.Sayings.{no-lines, its-record, one-more}
+use Rattle.tns_bits.proofs.Sayings.{no-lines, its-record, one-more, all-lines}
 use Rattle.tns_bits.proofs.lines.put_lines.Statement.{statement}
 use Rattle.tns_bits.proofs.lines.put_lines.Tie as tie
 
@@ -77,7 +77,7 @@ returns c =
     let l = c .before .loop in
     let g = c .before .before .before .before .args in
     let all : l .k ≡ g .count = omega arith in
-    (l .inv .3, l .inv .4 ∙ ap (λ (n : ℕ). after (length (g .out .now)) [] (linesText (g .frame) (g .bytes .now) n)) all)
+    (l .inv .3, l .inv .4 ∙ all-lines (length (g .out .now)) (g .frame) (g .bytes .now) (l .k) (omega arith) ∙ ap (linesText (g .frame) (g .bytes .now)) all)
 
 pub put-lines-spec : {M : Type 1} → statement M
 put-lines-spec =
