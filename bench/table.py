@@ -10,7 +10,13 @@ fields that oracle/src/speed.rs states. Python 3's standard library alone.
 
 import pathlib
 import platform
+import statistics
 import sys
+
+# Whose calls are measured, in the order of the harness's fields.
+WHOSE = ("port", "guarded", "crate", "Rust", "liblc3")
+COMPARED = ("port", "Rust", "liblc3")
+OWN = ("port", "guarded", "crate")
 
 ROWS = [(duration, bandwidth) for duration in "01" for bandwidth in "01234"]
 DURATIONS = {"0": "10 ms", "1": "7.5 ms"}
@@ -21,19 +27,19 @@ DECODE = {"Rust": (0.95, None), "liblc3": (1.0, None)}
 
 
 def read_times(folder):
-    """What was said of the run, and for each measurement what was met and three times."""
+    """What was said of the run, and for each measurement what was met and whose time is which."""
     head, times = [], {}
     for line in (folder / "times").read_text().splitlines():
         fields = line.split("\t")
-        if len(fields) == 8:
-            times[tuple(fields[:4])] = (fields[4], [float(t) for t in fields[5:]])
+        if len(fields) == 5 + len(WHOSE):
+            times[tuple(fields[:4])] = (fields[4], dict(zip(WHOSE, map(float, fields[5:]))))
         else:
             head.append(line)
     return head, times
 
 
 def read_counts(folder):
-    """Instructions a call for each measurement: the port's, the Rust's, liblc3's."""
+    """Instructions a call for each measurement, and whose they are."""
     found = {}
     for part in (folder / "counts").glob("part.*"):
         label, total = None, None
@@ -46,8 +52,7 @@ def read_counts(folder):
             *name, whose, calls = label
             found[tuple(name), whose] = total / int(calls)
     names = {name for name, _ in found}
-    whose = ("port", "Rust", "liblc3")
-    return {n: [found[n, w] - found[n, "nothing"] for w in whose] for n in names}
+    return {n: {w: found[n, w] - found[n, "nothing"] for w in WHOSE} for n in names}
 
 
 def processor():
@@ -65,8 +70,7 @@ def row_name(duration, bandwidth):
 
 
 def ratios(times):
-    port, original, lc3 = times
-    return {"Rust": original / port, "liblc3": lc3 / port}
+    return {other: times[other] / times["port"] for other in ("Rust", "liblc3")}
 
 
 def print_rows(names, times, counts):
@@ -75,16 +79,51 @@ def print_rows(names, times, counts):
         f"{'Rust/port':>11}{'liblc3/port':>13}{'port':>10}{'Rust':>8}{'liblc3':>8}"
     )
     for name in names:
-        met, three = times[name]
+        met, of = times[name]
         _, duration, bandwidth, what = name
-        r = ratios(three)
-        cells = "".join(f"{t:>8.1f}" for t in three)
-        instructions = "".join(f"{round(c):>{w}}" for c, w in zip(counts[name], (10, 8, 8)))
+        r = ratios(of)
+        cells = "".join(f"{of[w]:>8.1f}" for w in COMPARED)
+        instructions = "".join(
+            f"{round(counts[name][w]):>{width}}" for w, width in zip(COMPARED, (10, 8, 8))
+        )
         print(
             f"{row_name(duration, bandwidth):<20}{what:<9}{met:<17}{cells}"
             f"{r['Rust']:>11.2f}{r['liblc3']:>13.2f}{instructions}"
         )
     print()
+
+
+def print_own(names, times, counts):
+    """The port called in three ways, and what two of them take over the first."""
+    print(
+        f"{'row':<20}{'what':<9}{'port':>8}{'guarded':>9}{'crate':>8}{'guard':>9}{'ratio':>7}"
+        f"{'crate':>9}{'ratio':>7}{'port':>10}{'guarded':>9}{'crate':>8}"
+    )
+    for name in names:
+        of = times[name][1]
+        _, duration, bandwidth, what = name
+        cells = "".join(f"{of[w]:>{width}.1f}" for w, width in zip(OWN, (8, 9, 8)))
+        over = "".join(
+            f"{of[w] - of['port']:>+9.1f}{of[w] / of['port']:>7.3f}" for w in ("guarded", "crate")
+        )
+        instructions = "".join(
+            f"{round(counts[name][w]):>{width}}" for w, width in zip(OWN, (10, 9, 8))
+        )
+        print(f"{row_name(duration, bandwidth):<20}{what:<9}{cells}{over}{instructions}")
+    print()
+
+
+def print_guard(title, names, times, counts):
+    """What the guard takes: the middle and the most in ns, and the most instructions."""
+    over = {n: times[n][1]["guarded"] - times[n][1]["port"] for n in names}
+    most = max(over, key=over.get)
+    whole = times[most][1]["port"]
+    instructions = max(round(counts[n]["guarded"] - counts[n]["port"]) for n in names)
+    where = f"{row_name(*most[1:3])} {most[3]}"
+    print(
+        f"{title}, the guard: median {statistics.median(over.values()):+.1f} ns, "
+        f"largest {over[most]:+.1f} ns on {whole:.1f} ({where}); {instructions} instructions"
+    )
 
 
 def print_marks(title, names, times, marks):
@@ -114,7 +153,7 @@ def main():
         print(line)
     print()
     print("Times in ns a call; ratios above 1 say that the port is faster; the last three")
-    print("columns are instructions a call.")
+    print("columns are instructions a call. The port is called by its exports, as from C.")
     print()
     print("encode: on: every band of every frame gets a filter, of the orders named; flag: the")
     print("same frames with the near-Nyquist flag, which turns the filter off after the")
@@ -126,6 +165,12 @@ def main():
     print()
     decode = [("decode", d, b, f"order {o}") for d, b in ROWS for o in range(9)]
     print_rows(decode, times, counts)
+    print("guard: the port by its exports, by the same inside the Rust crate's guard of the float")
+    print("environment, and by the crate's functions; what the guard and the crate take over the")
+    print("exports, in ns and as a ratio; instructions. The crate also hands the answer over as a")
+    print("Result, the encoder's with its side data and coefficients.")
+    print()
+    print_own(encode + decode, times, counts)
     print("marks")
     for what in ("on", "flag", "silence"):
         names = [name for name in encode if name[3] == what]
@@ -133,6 +178,9 @@ def main():
     print_marks("decode, order 0", [n for n in decode if n[3] == "order 0"], times, DECODE)
     others = [n for n in decode if n[3] != "order 0"]
     print_marks("decode, orders 1 to 8", others, times, DECODE)
+    print_guard("encode", encode, times, counts)
+    print_guard("decode, order 0", [n for n in decode if n[3] == "order 0"], times, counts)
+    print_guard("decode, orders 1 to 8", others, times, counts)
 
 
 def valgrind(folder):

@@ -4,6 +4,13 @@
  * anywhere. What is asked of the caller is what C cannot check: a pointer is good for its length
  * (and not null, also at length 0) and aligned for its type, and no two lists of a call overlap.
  * Calls share nothing, so threads may call side by side. docs/CONTRACTS.md has the promises.
+ *
+ * The caller answers for the float environment as well: a call is to be made in the default one, with
+ * rounding to nearest, no flush-to-zero, no denormals-are-zero and all exceptions masked. Audio threads
+ * are often run otherwise. There tns_decode can leave other lines, and tns_encode other lines, side
+ * data, coefficients and bits; an exception that is not masked can end the process. Refusals and
+ * tns_cost are whole numbers and stay the same. examples/float_environment.c guards a call in a few
+ * lines; the Rust crate guards each of its calls.
  */
 #ifndef TNS_H
 #define TNS_H

@@ -10,8 +10,9 @@ fn main() {
     let archive = std::env::var_os("TNS_ARCHIVE").map_or_else(of_repository, PathBuf::from);
     println!("cargo:rerun-if-changed={}", archive.display());
     let folder = archive.parent().unwrap_or(Path::new("."));
+    let name = Path::new(archive.file_name().expect("TNS_ARCHIVE names a file"));
     println!("cargo:rustc-link-search=native={}", folder.display());
-    println!("cargo:rustc-link-lib=static=tns");
+    println!("cargo:rustc-link-lib=static:+verbatim={}", name.display());
 }
 
 fn of_repository() -> PathBuf {

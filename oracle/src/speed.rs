@@ -1,14 +1,16 @@
 //! The words `speed` and `counts`: the port, the original and liblc3 side by
-//! side, in one process, on the same lines in the same memory. `speed` prints
-//! times. `counts` makes the same calls once under valgrind's callgrind, which
-//! counts their instructions. Neither demands anything; bench/run makes a table
-//! of both. Assumes that the port's static library and liblc3 are linked
-//! (feature "lc3").
+//! side, in one process, on the same lines in the same memory. The port is called
+//! in three ways: by its exports, as from C; the same inside the Rust crate's
+//! guard of the float environment; and by the crate's own functions, as from
+//! Rust. `speed` prints times. `counts` makes the same calls once under
+//! valgrind's callgrind, which counts their instructions. Neither demands
+//! anything; bench/run makes a table of both. Assumes that the port's static
+//! library and liblc3 are linked (feature "lc3").
 //!
 //! A line of `speed` has fields between tabs: encode or decode, duration code,
 //! bandwidth, what is run, the orders met, then the ns a call of the port, of
-//! the Rust and of liblc3. A label of `counts` has the first four and then whose
-//! call it is and how often it was made.
+//! the port guarded, of the crate, of the Rust and of liblc3. A label of `counts`
+//! has the first four and then whose call it is and how often it was made.
 
 use crate::answer::ACCEPTED;
 use crate::builds::{both, Build};
@@ -19,9 +21,15 @@ use crate::lc3_calls::{analyze, synthesize, Data};
 use crate::port;
 use crate::random::{Random, SEED};
 use crate::rows::{Row, ROWS};
+use gillsextant::{Bandwidth, Duration};
 use std::ffi::CString;
 use std::hint::black_box;
 use std::time::Instant;
+
+// The guard's own text, as it lies from the build folder, target/oracle/tree/src.
+#[rustfmt::skip]
+#[path = "../../../../rust/src/float.rs"]
+mod float;
 
 /// So many that a row's lines, before and after, stay in the first-level cache.
 const FRAMES: usize = 12;
@@ -32,25 +40,36 @@ const ROUNDS: usize = 250;
 /// Far above the weighting limits; a whole number of bytes for liblc3.
 const BITS: u64 = 1600;
 
+const DURATIONS: [Duration; 2] = [Duration::TenMs, Duration::SevenPointFiveMs];
+const BANDWIDTHS: [Bandwidth; 5] = [
+    Bandwidth::NarrowBand,
+    Bandwidth::WideBand,
+    Bandwidth::SemiSuperWideBand,
+    Bandwidth::SuperWideBand,
+    Bandwidth::FullBand,
+];
+
 /// The lines of a frame at a round address, as a codec's own buffer has them.
 #[derive(Clone)]
 #[repr(align(64))]
 struct Lines([f32; 400]);
 
-/// The frames of a row, and the same memory for all three to work in.
+/// The frames of a row, and the same memory for all to work in.
 struct Frames {
     fresh: Vec<Lines>,
     used: Vec<Lines>,
     length: usize,
 }
 
-/// The least times met so far: what is measured, then the orders met and four
+/// The least times met so far: what is measured, then the orders met and the
 /// times, the first of a call that does nothing.
 #[derive(Default)]
-struct Least(Vec<(String, String, [f64; 4])>);
+struct Least(Vec<(String, String, Times)>);
+
+type Times = [f64; 6];
 
 impl Least {
-    fn keep(&mut self, name: &str, met: &str, times: [f64; 4]) {
+    fn keep(&mut self, name: &str, met: &str, times: Times) {
         match self.0.iter_mut().find(|entry| entry.0 == name) {
             Some(entry) => {
                 for (least, time) in entry.2.iter_mut().zip(times) {
@@ -62,9 +81,9 @@ impl Least {
     }
 
     fn print(&self) {
-        for (name, met, [nothing, port, original, lc3]) in &self.0 {
-            let [port, original, lc3] = [port, original, lc3].map(|t| t - nothing);
-            println!("{name}\t{met}\t{port:.1}\t{original:.1}\t{lc3:.1}");
+        for (name, met, [nothing, times @ ..]) in &self.0 {
+            let times = times.map(|t| format!("{:.2}", t - nothing));
+            println!("{name}\t{met}\t{}", times.join("\t"));
         }
     }
 }
@@ -113,14 +132,17 @@ impl Frames {
     }
 }
 
-/// The three calls by turns, so that what disturbs the machine disturbs all of
-/// them alike, and beside them a call that does nothing, which is taken off.
+/// The calls by turns, so that what disturbs the machine disturbs all of them
+/// alike, and beside them a call that does nothing, which is taken off.
 fn measure(
     sink: &mut Sink,
-    name: &str,
-    met: &str,
+    (name, met): (&str, &str),
     frames: &mut Frames,
-    mut port: impl FnMut(&mut [f32]),
+    (mut port, mut guarded, mut by_crate): (
+        impl FnMut(&mut [f32]),
+        impl FnMut(&mut [f32]),
+        impl FnMut(&mut [f32]),
+    ),
     mut original: impl FnMut(&mut [f32]),
     mut lc3: impl FnMut(&mut [f32]),
 ) {
@@ -130,16 +152,20 @@ fn measure(
     let Sink::Times(times) = sink else {
         frames.count(&format!("{name}\tnothing\t{FRAMES}"), &mut nothing);
         frames.count(&format!("{name}\tport\t{FRAMES}"), &mut port);
+        frames.count(&format!("{name}\tguarded\t{FRAMES}"), &mut guarded);
+        frames.count(&format!("{name}\tcrate\t{FRAMES}"), &mut by_crate);
         frames.count(&format!("{name}\tRust\t{FRAMES}"), &mut original);
         frames.count(&format!("{name}\tliblc3\t{FRAMES}"), &mut lc3);
         return;
     };
-    let mut least = [f64::INFINITY; 4];
+    let mut least: Times = [f64::INFINITY; 6];
     for _ in 0..ROUNDS {
         least[0] = least[0].min(frames.time(&mut nothing));
         least[1] = least[1].min(frames.time(&mut port));
-        least[2] = least[2].min(frames.time(&mut original));
-        least[3] = least[3].min(frames.time(&mut lc3));
+        least[2] = least[2].min(frames.time(&mut guarded));
+        least[3] = least[3].min(frames.time(&mut by_crate));
+        least[4] = least[4].min(frames.time(&mut original));
+        least[5] = least[5].min(frames.time(&mut lc3));
     }
     times.keep(name, met, least);
 }
@@ -176,6 +202,7 @@ fn second_opinion(first: &Frame, second: &Frame) -> Frame {
 
 fn encode(sink: &mut Sink, row: &Row, build: &Build, what: &str, flag: bool, frames: Vec<Lines>) {
     let (d, w) = (row.duration, row.bandwidth);
+    let (duration, bandwidth) = (DURATIONS[d as usize], BANDWIDTHS[w as usize]);
     let mut frames = Frames::new(frames, row);
     let (mut side, mut coefficients) = ([0; 20], [0.0; 16]);
     let mut met = Vec::new();
@@ -191,22 +218,33 @@ fn encode(sink: &mut Sink, row: &Row, build: &Build, what: &str, flag: bool, fra
     }
     met.sort_unstable();
     met.dedup();
+    let (mut guarded_side, mut guarded_coefficients) = (side, coefficients);
     measure(
         sink,
-        &format!("encode\t{d}\t{w}\t{what}"),
-        &met.join(" "),
+        (&format!("encode\t{d}\t{w}\t{what}"), &met.join(" ")),
         &mut frames,
-        |lines| {
-            black_box(port::encode_lines(
-                d,
-                w,
-                BITS,
-                flag,
-                lines,
-                &mut side,
-                &mut coefficients,
-            ));
-        },
+        (
+            |lines: &mut [f32]| {
+                let (side, coefficients) = (&mut side, &mut coefficients);
+                black_box(port::encode_lines(
+                    d,
+                    w,
+                    BITS,
+                    flag,
+                    lines,
+                    side,
+                    coefficients,
+                ));
+            },
+            |lines: &mut [f32]| {
+                let (side, coefficients) = (&mut guarded_side, &mut guarded_coefficients);
+                let call = move || port::encode_lines(d, w, BITS, flag, lines, side, coefficients);
+                black_box(float::in_default(call));
+            },
+            |lines: &mut [f32]| {
+                black_box(&gillsextant::encode(duration, bandwidth, BITS, flag, lines));
+            },
+        ),
         |lines| {
             black_box((build.encode)(d, w, BITS, flag, lines));
         },
@@ -218,6 +256,7 @@ fn encode(sink: &mut Sink, row: &Row, build: &Build, what: &str, flag: bool, fra
 
 fn decode(sink: &mut Sink, row: &Row, order: usize, build: &Build, random: &mut Random) {
     let (d, w) = (row.duration, row.bandwidth);
+    let (duration, bandwidth) = (DURATIONS[d as usize], BANDWIDTHS[w as usize]);
     let drawn = (0..FRAMES).map(|_| {
         let mut lines = Lines([0.0; 400]);
         bands(random, row, &mut lines.0[..row.last_stop()], 0, 10);
@@ -228,20 +267,34 @@ fn decode(sink: &mut Sink, row: &Row, order: usize, build: &Build, random: &mut 
     side.filters = row.bands.len();
     side.orders = [order, if row.bands.len() == 2 { order } else { 0 }];
     side.indices.fill_with(|| 6 + random.below(5));
-    let (filters, orders) = (side.filters as u8, side.orders.map(|n| n as u8));
-    let indices = side.indices.map(|n| n as u8);
+    let filters = side.filters as u8;
+    let orders = &side.orders.map(|n| n as u8);
+    let indices = &side.indices.map(|n| n as u8);
     let data = Data::of(&side);
     let lines = &mut frames.used[0].0[..frames.length];
-    let answer = port::decode_lines(d, w, filters, &orders, &indices, lines);
+    let answer = port::decode_lines(d, w, filters, orders, indices, lines);
     assert_eq!(answer, ACCEPTED, "the port refuses a frame of the bench");
     measure(
         sink,
-        &format!("decode\t{d}\t{w}\torder {order}"),
-        &order.to_string(),
+        (
+            &format!("decode\t{d}\t{w}\torder {order}"),
+            &order.to_string(),
+        ),
         &mut frames,
-        |lines| {
-            black_box(port::decode_lines(d, w, filters, &orders, &indices, lines));
-        },
+        (
+            |lines: &mut [f32]| {
+                black_box(port::decode_lines(d, w, filters, orders, indices, lines));
+            },
+            |lines: &mut [f32]| {
+                let call = move || port::decode_lines(d, w, filters, orders, indices, lines);
+                black_box(float::in_default(call));
+            },
+            |lines: &mut [f32]| {
+                let _ = black_box(gillsextant::decode(
+                    duration, bandwidth, filters, orders, indices, lines,
+                ));
+            },
+        ),
         |lines| {
             (build.decode)(d, w, side.filters, &side.orders, &side.indices, lines);
             black_box(lines);

@@ -19,6 +19,9 @@
 //! # Ok::<(), Refusal>(())
 //! ```
 //!
+//! A call may be made in any float environment, as from an audio thread with flush-to-zero and
+//! denormals-are-zero set: it works in the default one, and the thread has its own again afterwards.
+//!
 //! Coming from lc3-codec: [`encoder::temporal_noise_shaping`] and [`decoder::temporal_noise_shaping`]
 //! have its names. They answer with a `Result` where it panics.
 #![no_std]
@@ -26,6 +29,7 @@
 
 pub mod decoder;
 pub mod encoder;
+mod float;
 mod refusal;
 mod sys;
 
@@ -105,6 +109,7 @@ impl Bandwidth {
 ///
 /// Where the lines are finite and at most 2^m in size, each filtered line is within 2^(m-13) of the
 /// filter worked without rounding, for whole m from -126 to 119.
+#[inline]
 pub fn encode(
     duration: Duration,
     bandwidth: Bandwidth,
@@ -116,6 +121,7 @@ pub fn encode(
 }
 
 /// Decodes a spectrum in place.
+#[inline]
 pub fn decode(
     duration: Duration,
     bandwidth: Bandwidth,
@@ -135,6 +141,7 @@ pub fn decode(
 }
 
 /// The bits that side data cost.
+#[inline]
 pub fn cost(weighting: u8, filters: u8, orders: &[u8], indices: &[u8]) -> Result<u16, Refusal> {
     sys::cost(weighting, filters, orders, indices)
 }

@@ -49,18 +49,17 @@ impl Refusal {
         }
     }
 
-    /// The library's numbers; 0 is an accepted call, and there is none above 8.
-    pub(crate) fn of(number: u16, place: u16, found: u16) -> Option<Self> {
+    /// The library's numbers for a refused call, 1 to 8.
+    pub(crate) fn of(number: u16, place: u16, found: u16) -> Self {
         match number {
-            0 => None,
-            1 => Some(Refusal::Duration),
-            2 => Some(Refusal::Bandwidth),
-            3 => Some(Refusal::SpectrumLength),
-            4 => Some(Refusal::ListLength),
-            5 => Some(Refusal::FilterCount),
-            6 => Some(Refusal::Order { place, found }),
-            7 => Some(Refusal::Index { place, found }),
-            _ => Some(Refusal::Weighting),
+            1 => Refusal::Duration,
+            2 => Refusal::Bandwidth,
+            3 => Refusal::SpectrumLength,
+            4 => Refusal::ListLength,
+            5 => Refusal::FilterCount,
+            6 => Refusal::Order { place, found },
+            7 => Refusal::Index { place, found },
+            _ => Refusal::Weighting,
         }
     }
 }

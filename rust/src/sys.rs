@@ -1,9 +1,12 @@
 //! The library's three functions: their declarations, and the only calls of them. The contracts of
 //! these functions are proved; that the shapes here are theirs is for a reader to see in
-//! `crates/tns/src/lib.rt`.
+//! `crates/tns/src/lib.rt`. All three are called in the default float environment (`float`), so that
+//! nobody has to know which of them compute with floats. The two short calls are inlined: handing nine
+//! arguments on would take longer than a decoder's call without a filter.
 
-use crate::{Encoded, Refusal, SideData};
+use crate::{float, Encoded, Refusal, SideData};
 
+#[derive(Clone, Copy)]
 #[repr(C)]
 struct Answer {
     refusal: u16,
@@ -13,11 +16,20 @@ struct Answer {
 }
 
 impl Answer {
-    fn bits(self) -> Result<u16, Refusal> {
-        match Refusal::of(self.refusal, self.place, self.found) {
-            None => Ok(self.bits),
-            Some(why) => Err(why),
+    #[inline]
+    fn accepted(self) -> Result<(), Refusal> {
+        if self.refusal == 0 {
+            Ok(())
+        } else {
+            Err(self.why())
         }
+    }
+
+    /// Out of line, so that an accepted call is known by one comparison.
+    #[cold]
+    #[inline(never)]
+    fn why(self) -> Refusal {
+        Refusal::of(self.refusal, self.place, self.found)
     }
 }
 
@@ -61,8 +73,9 @@ pub fn encode(
     lines: &mut [f32],
 ) -> Result<Encoded, Refusal> {
     let (mut bytes, mut coefficients) = ([0; 20], [0.0; 16]);
+    let (to_bytes, to_coefficients) = (&mut bytes, &mut coefficients);
     // Sound: each pointer is a borrow's, good for its length, and no two overlap.
-    let answer = unsafe {
+    let answer = float::in_default(move || unsafe {
         tns_encode(
             duration,
             bandwidth,
@@ -70,11 +83,11 @@ pub fn encode(
             near_nyquist,
             lines.as_mut_ptr(),
             lines.len(),
-            &mut bytes,
-            &mut coefficients,
+            to_bytes,
+            to_coefficients,
         )
-    };
-    let bits = answer.bits()?;
+    });
+    answer.accepted()?;
     let [weighting, filters, first, second, indices @ ..] = bytes;
     let side = SideData {
         weighting,
@@ -83,12 +96,13 @@ pub fn encode(
         indices,
     };
     Ok(Encoded {
-        bits,
+        bits: answer.bits,
         side,
         coefficients,
     })
 }
 
+#[inline]
 pub fn decode(
     duration: u8,
     bandwidth: u8,
@@ -98,7 +112,7 @@ pub fn decode(
     lines: &mut [f32],
 ) -> Result<(), Refusal> {
     // Sound as above.
-    let answer = unsafe {
+    let answer = float::in_default(move || unsafe {
         tns_decode(
             duration,
             bandwidth,
@@ -110,13 +124,14 @@ pub fn decode(
             lines.as_mut_ptr(),
             lines.len(),
         )
-    };
-    answer.bits().map(|_| ())
+    });
+    answer.accepted()
 }
 
+#[inline]
 pub fn cost(weighting: u8, filters: u8, orders: &[u8], indices: &[u8]) -> Result<u16, Refusal> {
     // Sound as above.
-    let answer = unsafe {
+    let answer = float::in_default(move || unsafe {
         tns_cost(
             weighting,
             filters,
@@ -125,6 +140,7 @@ pub fn cost(weighting: u8, filters: u8, orders: &[u8], indices: &[u8]) -> Result
             indices.as_ptr(),
             indices.len(),
         )
-    };
-    answer.bits()
+    });
+    answer.accepted()?;
+    Ok(answer.bits)
 }

@@ -1,0 +1,411 @@
+//! The caller's float environment. In every one a call of the crate answers and leaves the same bits,
+//! and the environment is afterwards what it was. That the spectra can tell is shown beside it: the
+//! exports themselves, called without the guard, give others or raise the exceptions.
+//!
+//! A test sets the thread's word MXCSR for a call alone, and has it back before anything is compared:
+//! Rust takes the default for granted.
+
+use gillsextant::decoder::temporal_noise_shaping::apply_temporal_noise_shaping;
+use gillsextant::encoder::temporal_noise_shaping::TemporalNoiseShaping;
+use gillsextant::{cost, decode, encode, Bandwidth, Duration, Refusal};
+use std::arch::asm;
+
+// The fields of MXCSR. Of the default only the masks are set.
+const FLUSH_TO_ZERO: u32 = 0x8000;
+/// To nearest, down, up, towards zero.
+const ROUNDING_MODES: [u32; 4] = [0x0000, 0x2000, 0x4000, 0x6000];
+const MASKS: u32 = 0x1f80;
+const DENORMALS_ARE_ZERO: u32 = 0x0040;
+const FLAGS: u32 = 0x003f;
+const DEFAULT: u32 = MASKS;
+const FIRST_MASK: u32 = 0x0080;
+const DIVIDE_BY_ZERO: u32 = 0x0004;
+
+/// The exports as the crate declares them.
+mod unguarded {
+    #[repr(C)]
+    pub struct Answer {
+        pub numbers: [u16; 4],
+    }
+
+    extern "C" {
+        pub fn tns_encode(
+            duration: u8,
+            bandwidth: u8,
+            bits: u64,
+            near_nyquist: bool,
+            lines: *mut f32,
+            lines_len: usize,
+            side: *mut [u8; 20],
+            coefficients: *mut [f32; 16],
+        ) -> Answer;
+        pub fn tns_decode(
+            duration: u8,
+            bandwidth: u8,
+            filters: u8,
+            orders: *const u8,
+            orders_len: usize,
+            indices: *const u8,
+            indices_len: usize,
+            lines: *mut f32,
+            lines_len: usize,
+        ) -> Answer;
+        pub fn tns_cost(
+            weighting: u8,
+            filters: u8,
+            orders: *const u8,
+            orders_len: usize,
+            indices: *const u8,
+            indices_len: usize,
+        ) -> Answer;
+    }
+}
+
+fn word_now() -> u32 {
+    let mut word = 0;
+    unsafe { asm!("stmxcsr [{}]", in(reg) &mut word) };
+    word
+}
+
+fn set_word(word: u32) {
+    unsafe { asm!("ldmxcsr [{}]", in(reg) &word) };
+}
+
+/// Makes a call with this word set; what it gave, and the word afterwards.
+#[inline(never)]
+fn within<R>(word: u32, call: impl FnOnce() -> R) -> (R, u32) {
+    let before = word_now();
+    set_word(word);
+    let answer = call();
+    let after = word_now();
+    set_word(before);
+    (answer, after)
+}
+
+/// Every rounding mode, with flush-to-zero and denormals-are-zero each off and on.
+fn masked() -> Vec<u32> {
+    let mut words = Vec::new();
+    for mode in ROUNDING_MODES {
+        for flush in [0, FLUSH_TO_ZERO] {
+            words.extend([0, DENORMALS_ARE_ZERO].map(|zero| MASKS | mode | flush | zero));
+        }
+    }
+    words
+}
+
+/// The same words, and each of them with one of the six exceptions unmasked and with all of them.
+fn environments() -> Vec<u32> {
+    let mut words = masked();
+    for word in masked() {
+        words.extend((0..6).map(|exception| word & !(FIRST_MASK << exception)));
+        words.push(word & !MASKS);
+    }
+    words
+}
+
+/// What a call said, number by number, and the bits of the lines that it left.
+#[derive(Clone, Debug, PartialEq)]
+struct Outcome {
+    said: Vec<u32>,
+    lines: Vec<u32>,
+}
+
+fn bits_of(floats: &[f32]) -> impl Iterator<Item = u32> + '_ {
+    floats.iter().map(|x| x.to_bits())
+}
+
+impl Outcome {
+    fn new(said: impl IntoIterator<Item = u32>, lines: &[f32]) -> Self {
+        Outcome {
+            said: said.into_iter().collect(),
+            lines: bits_of(lines).collect(),
+        }
+    }
+}
+
+// Every call is of one row, with one filter.
+const DURATION: Duration = Duration::TenMs;
+const BANDWIDTH: Bandwidth = Bandwidth::WideBand;
+const CODES: (u8, u8) = (0, 1);
+const LINES: usize = 160;
+const BITS: u64 = 320;
+const ORDERS: [u8; 2] = [8, 0];
+const INDICES: [u8; 16] = [11, 7, 10, 8, 9, 7, 9, 7, 8, 8, 8, 8, 8, 8, 8, 8];
+
+/// A call in an environment: what it did, and the word afterwards.
+type Call = fn(u32, &[f32]) -> (Outcome, u32);
+
+fn by_encode(word: u32, lines: &[f32]) -> (Outcome, u32) {
+    let mut lines = lines.to_vec();
+    let (answer, after) = within(word, || {
+        encode(DURATION, BANDWIDTH, BITS, false, &mut lines)
+    });
+    let encoded = answer.expect("the frame is accepted");
+    let side = encoded.side;
+    let bytes = [side.weighting, side.filters].into_iter();
+    let bytes = bytes.chain(side.orders).chain(side.indices).map(u32::from);
+    let said = [u32::from(encoded.bits)].into_iter().chain(bytes);
+    let said = said.chain(bits_of(&encoded.coefficients));
+    (Outcome::new(said, &lines), after)
+}
+
+fn by_run(word: u32, lines: &[f32]) -> (Outcome, u32) {
+    let mut lines = lines.to_vec();
+    let tns = TemporalNoiseShaping::new(DURATION);
+    let (answer, after) = within(word, || {
+        tns.run(&mut lines, CODES.1.into(), BITS as usize, false)
+    });
+    let result = answer.expect("the frame is accepted");
+    let numbers = [
+        result.nbits_tns,
+        result.lpc_weighting.into(),
+        result.num_tns_filters,
+    ];
+    let numbers = numbers.into_iter().chain(result.rc_order);
+    let said = numbers.chain(result.rc_i).map(|n| n as u32);
+    let said = said.chain(bits_of(&result.rc_q));
+    (Outcome::new(said, &lines), after)
+}
+
+fn by_decode(word: u32, lines: &[f32]) -> (Outcome, u32) {
+    let mut lines = lines.to_vec();
+    let (answer, after) = within(word, || {
+        decode(DURATION, BANDWIDTH, 1, &ORDERS, &INDICES, &mut lines)
+    });
+    answer.expect("the frame is accepted");
+    (Outcome::new([], &lines), after)
+}
+
+fn by_apply(word: u32, lines: &[f32]) -> (Outcome, u32) {
+    let mut lines = lines.to_vec();
+    let (orders, indices) = (ORDERS.map(usize::from), INDICES.map(usize::from));
+    let (answer, after) = within(word, || {
+        apply_temporal_noise_shaping(DURATION, BANDWIDTH, 1, &orders, &indices, &mut lines)
+    });
+    answer.expect("the frame is accepted");
+    (Outcome::new([], &lines), after)
+}
+
+fn by_cost(word: u32, lines: &[f32]) -> (Outcome, u32) {
+    let (answer, after) = within(word, || cost(0, 1, &ORDERS, &INDICES));
+    let bits = answer.expect("the side data are accepted");
+    (Outcome::new([u32::from(bits)], lines), after)
+}
+
+fn encode_unguarded(word: u32, lines: &[f32]) -> (Outcome, u32) {
+    let mut lines = lines.to_vec();
+    let (mut side, mut coefficients) = ([0; 20], [0.0; 16]);
+    let (answer, after) = within(word, || unsafe {
+        unguarded::tns_encode(
+            CODES.0,
+            CODES.1,
+            BITS,
+            false,
+            lines.as_mut_ptr(),
+            lines.len(),
+            &mut side,
+            &mut coefficients,
+        )
+    });
+    let said = answer.numbers.into_iter().map(u32::from);
+    let said = said.chain(side.map(u32::from));
+    (
+        Outcome::new(said.chain(bits_of(&coefficients)), &lines),
+        after,
+    )
+}
+
+fn decode_unguarded(word: u32, lines: &[f32]) -> (Outcome, u32) {
+    decode_orders_unguarded(ORDERS, word, lines)
+}
+
+fn decode_orders_unguarded(orders: [u8; 2], word: u32, lines: &[f32]) -> (Outcome, u32) {
+    let mut lines = lines.to_vec();
+    let (answer, after) = within(word, || unsafe {
+        unguarded::tns_decode(
+            CODES.0,
+            CODES.1,
+            1,
+            orders.as_ptr(),
+            orders.len(),
+            INDICES.as_ptr(),
+            INDICES.len(),
+            lines.as_mut_ptr(),
+            lines.len(),
+        )
+    });
+    let said = answer.numbers.map(u32::from);
+    (Outcome::new(said, &lines), after)
+}
+
+fn cost_unguarded(word: u32, orders: [u8; 2]) -> [u16; 4] {
+    let (answer, _) = within(word, || unsafe {
+        unguarded::tns_cost(
+            0,
+            1,
+            orders.as_ptr(),
+            orders.len(),
+            INDICES.as_ptr(),
+            INDICES.len(),
+        )
+    });
+    answer.numbers
+}
+
+fn falling(loudest: f32) -> Vec<f32> {
+    (0..LINES as i32)
+        .map(|n| loudest * 0.95f32.powi(n))
+        .collect()
+}
+
+/// Whether the encoder filters the falling spectrum whose loudest line has these bits.
+fn filters(loudest: u32) -> bool {
+    let mut lines = falling(f32::from_bits(loudest));
+    let encoded = encode(DURATION, BANDWIDTH, BITS, false, &mut lines);
+    encoded.expect("the frame is accepted").side.orders != [0, 0]
+}
+
+/// The quietest falling spectrum that the encoder filters, and the next quieter one. It filters none
+/// whose three energies have the product 0, so here a rounding decides, and every field of the answer
+/// hangs on it.
+fn at_the_edge() -> [Vec<f32>; 2] {
+    let (mut off, mut on) = ((-40f32).exp2().to_bits(), 1f32.to_bits());
+    assert!(filters(on) && !filters(off));
+    while on - off > 1 {
+        let middle = off + (on - off) / 2;
+        if filters(middle) {
+            on = middle;
+        } else {
+            off = middle;
+        }
+    }
+    [on, off].map(|bits| falling(f32::from_bits(bits)))
+}
+
+/// Ordinary lines; some that are subnormal; two spectra at the edge; large lines; one that is infinite.
+fn spectra() -> Vec<Vec<f32>> {
+    let ordinary = falling(1000.0);
+    let mut subnormal = ordinary.clone();
+    subnormal[..30].fill(f32::from_bits(0x0000_0b8e));
+    let mut infinite = ordinary.clone();
+    infinite[30] = f32::INFINITY;
+    let large = (0..LINES).map(|n| if n % 3 == 0 { -3e38 } else { 3e38 });
+    let [on, off] = at_the_edge();
+    vec![ordinary, subnormal, on, off, large.collect(), infinite]
+}
+
+/// In every environment what is done in the default one, and the environment afterwards as it was.
+fn same_in_every_environment(call: Call) {
+    let spectra = spectra();
+    for (n, lines) in spectra.iter().enumerate() {
+        let (expected, _) = call(DEFAULT, lines);
+        for word in environments() {
+            let (found, _) = call(word, lines);
+            assert_eq!(found, expected, "spectrum {n} with MXCSR {word:#06x}");
+        }
+    }
+    // With the flags up as well: none is lost, and where the guard acts none is added.
+    let all_up = environments().into_iter().map(|word| word | FLAGS);
+    for word in environments().into_iter().chain(all_up) {
+        for (n, lines) in spectra.iter().enumerate() {
+            let (_, after) = call(word, lines);
+            let raised = if word == DEFAULT { after & FLAGS } else { 0 };
+            assert_eq!(after, word | raised, "spectrum {n} with MXCSR {word:#06x}");
+        }
+    }
+}
+
+#[test]
+fn encode_is_the_same() {
+    same_in_every_environment(by_encode);
+}
+
+#[test]
+fn decode_is_the_same() {
+    same_in_every_environment(by_decode);
+}
+
+#[test]
+fn cost_is_the_same() {
+    same_in_every_environment(by_cost);
+}
+
+#[test]
+fn encode_by_the_other_name_is_the_same() {
+    same_in_every_environment(by_run);
+}
+
+#[test]
+fn decode_by_the_other_name_is_the_same() {
+    same_in_every_environment(by_apply);
+}
+
+/// Without the guard every environment but the default changes lines.
+#[test]
+fn lines_hang_on_the_environment() {
+    let spectra = spectra();
+    for word in masked() {
+        for call in [encode_unguarded as Call, decode_unguarded] {
+            let other = |x: &Vec<f32>| call(word, x).0.lines != call(DEFAULT, x).0.lines;
+            assert_eq!(spectra.iter().any(other), word != DEFAULT, "{word:#06x}");
+        }
+    }
+}
+
+/// And the encoder's bits, side data and coefficients.
+#[test]
+fn side_data_hang_on_the_environment() {
+    let spectra = spectra();
+    for word in masked() {
+        let call = encode_unguarded;
+        let other = |x: &Vec<f32>| call(word, x).0.said != call(DEFAULT, x).0.said;
+        assert_eq!(spectra.iter().any(other), word != DEFAULT, "{word:#06x}");
+    }
+}
+
+/// A call raises five of the six exceptions, and would end there if they were not masked. No spectrum
+/// is known at which the library divides by zero.
+#[test]
+fn calls_raise_exceptions() {
+    for call in [encode_unguarded as Call, decode_unguarded] {
+        let raised = |sum, lines: &Vec<f32>| sum | call(DEFAULT, lines).1 & FLAGS;
+        let raised = spectra().iter().fold(0, raised);
+        assert_eq!(raised | DIVIDE_BY_ZERO, FLAGS);
+    }
+}
+
+/// What include/tns.h says of C: refusals and the cost need no guard.
+#[test]
+fn refusals_and_cost_are_the_same_unguarded() {
+    for lines in spectra() {
+        let before: Vec<u32> = bits_of(&lines).collect();
+        let short = &lines[1..];
+        for word in environments() {
+            let (refused, _) = decode_orders_unguarded([8, 9], word, &lines);
+            assert_eq!(refused.said, [6, 1, 9, 0]);
+            assert_eq!(refused.lines, before);
+            let (refused, _) = encode_unguarded(word, short);
+            assert_eq!(refused.said[..4], [3, 0, 0, 0]);
+            assert_eq!(refused.lines, before[1..]);
+            assert_eq!(cost_unguarded(word, [8, 9]), [6, 1, 9, 0]);
+            assert_eq!(
+                cost_unguarded(word, ORDERS),
+                cost_unguarded(DEFAULT, ORDERS)
+            );
+        }
+    }
+}
+
+/// A refused call leaves the environment too.
+#[test]
+fn refusals_leave_the_environment() {
+    for word in environments() {
+        let mut lines = vec![1.5; LINES - 1];
+        let (answer, after) = within(word, || {
+            encode(DURATION, BANDWIDTH, BITS, false, &mut lines)
+        });
+        assert_eq!((answer.err(), after), (Some(Refusal::SpectrumLength), word));
+        let (answer, after) = within(word, || cost(2, 1, &ORDERS, &INDICES));
+        assert_eq!((answer, after), (Err(Refusal::Weighting), word));
+    }
+}
