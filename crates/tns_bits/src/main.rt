@@ -4,8 +4,8 @@
 // is answered. Assumes nothing.
 mod lines;
 
-use lines::put_line;
 use lines::put_lines;
+use tns_lines::put_line;
 use tns_program::Read;
 use tns_program::keep;
 use tns_program::read_after;

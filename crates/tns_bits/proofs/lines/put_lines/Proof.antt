@@ -12,8 +12,9 @@ use Rattle.io.proofs.Counting.{counts}
 use Rattle.tns_cost.specs.Records.{lineOf}
 use Rattle.tns_program.specs.Text.{after}
 use Rattle.tns_program.proofs.Texts.{put-on}
-use Rattle.tns_bits.specs.Lines.{lineText, record20, linesText}
-use Rattle.tns_bits.proofs.Sayings.{no-lines, its-record, one-more, all-lines}
+use Rattle.tns_lines.specs.Lines.{lineText}
+use Rattle.tns_bits.specs.Lines.{record20, linesText}
+use Rattle.tns_bits.proofs.Pieces.{no-lines, its-record, one-more, all-lines}
 use Rattle.tns_bits.proofs.lines.put_lines.Statement.{statement}
 use Rattle.tns_bits.proofs.lines.put_lines.Tie as tie
 
