@@ -8,9 +8,9 @@ use lib.ListN.{length, length-append, take, drop}
 use lib.Seq.{take-nil, take-all}
 use Rattle.tns_cost.specs.Records.{lineOf}
 use Rattle.tns_program.specs.Text.{after}
-use Rattle.tns_lines.specs.Lines.{lineText}
-use Rattle.tns_lines.proofs.Sayings.{line-at-most}
-use Rattle.tns_bits.specs.Lines.{record20, linesText}
+use Rattle.tns_wording.specs.Wording.{lineText}
+use Rattle.tns_wording.proofs.Sayings.{line-at-most}
+use Rattle.tns_bits.specs.Output.{record20, linesText}
 
 pub no-lines : (room frame : ℕ) (bytes : List ℕ) → [] ≡ after room [] (linesText frame bytes 0)
 unfolding after linesText

@@ -1,2 +1,2 @@
 -- What a reader has to believe of the bits program's lines.
-pub mod Lines
+pub mod Output

@@ -2,17 +2,17 @@
 // the bits that it costs, or why it is refused. The lines of the records read are proved to be those
 // of document 01; that they are read and written is tested. What was read before input ends or fails
 // is answered. Assumes nothing.
-mod lines;
+mod output;
 
-use lines::put_lines;
-use tns_lines::put_line;
+use output::put_lines;
 use tns_program::Read;
 use tns_program::keep;
 use tns_program::read_after;
 use tns_program::write;
+use tns_wording::put_line;
 ghost use mathlib.Core.Path.{_≡_};
-ghost use Prim.Native.Nat.{_+_, _*_, _≤_, _<_};
-ghost use lib.ListN.{length};
+ghost use Prim.Native.Nat.{_+_, _*_, _/_, _%_, _≤_, _<_};
+ghost use lib.ListN.{length, take, drop};
 
 // Where the program stands between two reads: the next frame's number, how many bytes of a record not
 // yet whole are held at the start of the piece, and whether there is more to do.
@@ -44,7 +44,8 @@ fn answer(input: &mut [u8], frame: u64, read: usize, output: &mut [u8]) -> Stand
     requires { ⌜ 16000 ≤ length (now input) ⌝ }
     requires { ⌜ 65536 ≡ length (now output) ⌝ }
     requires { ⌜ frame < 9223372036854775808 ⌝ }
-    ensures { λ r. ⌜ (r .frame ≤ frame + 800) × (r .held < 20) ⌝ }
+    ensures { λ r. ⌜ (r .frame ≡ frame + read / 20) × (r .held ≡ read % 20) ⌝ }
+    ensures { λ r. ⌜ take (r .held) (now (input .exit)) ≡ take (r .held) (drop (read / 20 * 20) (now (input .entry))) ⌝ }
 {
     let records = read / 20;
     let whole = records * 20;

@@ -7,6 +7,7 @@ use native.Mathlib.Decide.{decLt}
 use lib.ListN.{length, take}
 use borrow.Rule.Slice.PartMut.{putMid}
 use lib.Seq.{paste, take-at, take-all, take-paste, take-append-add, length-take-le, take-nil}
+use Rattle.io.specs.Counts.{Counts}
 use Rattle.tns_program.specs.Text.{after}
 
 -- what is taken of a list is no more than it has
@@ -51,3 +52,7 @@ put-on room later bytes first second between out e f r =
 -- the bytes before a part that is read anew
 pub held-kept : (held count : ℕ) (bytes part : List ℕ) → held ≤ length bytes → take held (putMid held count bytes part) ≡ take held bytes
 held-kept held count bytes part h = take-at (take held bytes) _ held (length-take-le held bytes h)
+
+-- The contracts that speak of a text fix how many bytes there are, too: any two counts that one allows are the text's length.
+pub counted : (count : ℕ) (out text : List ℕ) → Counts count out → take count out ≡ text → count ≡ length text
+counted count out text c e = c .1 ∙ ap length e

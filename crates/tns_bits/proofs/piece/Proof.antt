@@ -50,7 +50,10 @@ same-length-2 : tie.Need-same-length-2
 same-length-2 c = search needs
 
 returns : tie.Need-returns
-returns c = search needs
+returns c =
+    let answered = c .before .before .before .before in
+    let within = read-within (answered .before .before .before .before) .1 in
+    (omega (arith, within, answered .answer .ensures .0 .0), omega (arith, answered .answer .ensures .0 .1))
 
 same-length-3 : tie.Need-same-length-3
 same-length-3 c = search needs

@@ -1,4 +1,4 @@
--- `tns_lines::put_line` meets its contract: the pieces of a line, one after the other.
+-- `tns_wording::put_line` meets its contract: the pieces of a line, one after the other.
 -- Assumes nothing.
 use mathlib.Core.List.{_++_}
 use native.Mathlib.Omega.{arith}
@@ -6,10 +6,10 @@ use lib.ListN.{length, take}
 use Rattle.tns_program.specs.Text.{ascii, decimal}
 use Rattle.tns_program.proofs.Texts.{put-on}
 use Rattle.tns_cost.specs.Records.{lineOf}
-use Rattle.tns_lines.specs.Lines.{sayingText}
+use Rattle.tns_wording.specs.Wording.{sayingText}
 use borrow.Author.Needs.{needs}
-use Rattle.tns_lines.proofs.put_line.Statement.{statement}
-use Rattle.tns_lines.proofs.put_line.Tie as tie
+use Rattle.tns_wording.proofs.put_line.Statement.{statement}
+use Rattle.tns_wording.proofs.put_line.Tie as tie
 
 slice-aggregate-put : tie.Need-slice-aggregate-put
 slice-aggregate-put c = search needs

@@ -1,4 +1,4 @@
--- `tns_lines::put_cost` meets its contract: the bits, or the refusal.
+-- `tns_wording::put_cost` meets its contract: the bits, or the refusal.
 -- Assumes nothing.
 use mathlib.Core.Path.{ap, sym, _∙_}
 use native.Mathlib.Omega.{arith}
@@ -7,10 +7,10 @@ use Rattle.tns_program.specs.Text.{ascii, decimal, after}
 use Rattle.tns_program.proofs.Texts.{put-on}
 use Rattle.tns_cost.specs.Cost.{costSays}
 use Rattle.tns_cost.specs.declared.budget.CostAnswer.{CostAnswer}
-use Rattle.tns_lines.specs.Lines.{answerText}
+use Rattle.tns_wording.specs.Wording.{answerText}
 use borrow.Author.Needs.{needs}
-use Rattle.tns_lines.proofs.put_cost.Statement.{statement}
-use Rattle.tns_lines.proofs.put_cost.Tie as tie
+use Rattle.tns_wording.proofs.put_cost.Statement.{statement}
+use Rattle.tns_wording.proofs.put_cost.Tie as tie
 
 enum-known-answer : tie.Need-enum-known-answer
 enum-known-answer c = search needs

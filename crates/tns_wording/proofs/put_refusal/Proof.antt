@@ -1,12 +1,12 @@
--- `tns_lines::put_refusal` meets its contract: each refusal with its place, or after its number.
+-- `tns_wording::put_refusal` meets its contract: each refusal with its place, or after its number.
 -- Assumes nothing.
 use mathlib.Core.Path.{ap, _∙_}
 use lib.ListN.{length, take}
 use Rattle.tns_program.specs.Text.{after}
-use Rattle.tns_lines.proofs.Sayings.{of-order, of-index, without-place}
+use Rattle.tns_wording.proofs.Sayings.{of-order, of-index, without-place}
 use borrow.Author.Needs.{needs}
-use Rattle.tns_lines.proofs.put_refusal.Statement.{statement}
-use Rattle.tns_lines.proofs.put_refusal.Tie as tie
+use Rattle.tns_wording.proofs.put_refusal.Statement.{statement}
+use Rattle.tns_wording.proofs.put_refusal.Tie as tie
 
 number-requires : tie.Need-number-requires
 number-requires c κs = search needs

@@ -3,7 +3,7 @@ use mathlib.Core.List.{List, [], _++_}
 use Prim.Native.Nat.{ℕ, zero, suc, _+_, _*_}
 use lib.ListN.{take, drop}
 use Rattle.tns_cost.specs.Records.{lineOf}
-use Rattle.tns_lines.specs.Lines.{lineText}
+use Rattle.tns_wording.specs.Wording.{lineText}
 
 -- record k of some bytes, of 20 bytes each
 abbrev pub record20 : List ℕ → ℕ → List ℕ

@@ -1,12 +1,12 @@
--- `tns_lines::put_number` meets its contract.
+-- `tns_wording::put_number` meets its contract.
 -- Assumes nothing.
 use native.Mathlib.Omega.{arith}
 use lib.ListN.{length, take}
 use Rattle.tns_program.specs.Text.{ascii, decimal}
 use Rattle.tns_program.proofs.Texts.{put-on}
 use borrow.Author.Needs.{needs}
-use Rattle.tns_lines.proofs.put_number.Statement.{statement}
-use Rattle.tns_lines.proofs.put_number.Tie as tie
+use Rattle.tns_wording.proofs.put_number.Statement.{statement}
+use Rattle.tns_wording.proofs.put_number.Tie as tie
 
 slice-aggregate-put : tie.Need-slice-aggregate-put
 slice-aggregate-put c = search needs

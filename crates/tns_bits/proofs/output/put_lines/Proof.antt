@@ -1,4 +1,4 @@
--- `tns_bits::lines::put_lines` meets its contract: a line for each record, each after those before it.
+-- `tns_bits::output::put_lines` meets its contract: a line for each record, each after those before it.
 -- Assumes nothing.
 use mathlib.Core.Path.{_≡_, refl, sym, ap, _∙_}
 use mathlib.Core.List.{List, []}
@@ -12,11 +12,11 @@ use Rattle.io.proofs.Counting.{counts}
 use Rattle.tns_cost.specs.Records.{lineOf}
 use Rattle.tns_program.specs.Text.{after}
 use Rattle.tns_program.proofs.Texts.{put-on}
-use Rattle.tns_lines.specs.Lines.{lineText}
-use Rattle.tns_bits.specs.Lines.{record20, linesText}
+use Rattle.tns_wording.specs.Wording.{lineText}
+use Rattle.tns_bits.specs.Output.{record20, linesText}
 use Rattle.tns_bits.proofs.Pieces.{no-lines, its-record, one-more, all-lines}
-use Rattle.tns_bits.proofs.lines.put_lines.Statement.{statement}
-use Rattle.tns_bits.proofs.lines.put_lines.Tie as tie
+use Rattle.tns_bits.proofs.output.put_lines.Statement.{statement}
+use Rattle.tns_bits.proofs.output.put_lines.Tie as tie
 
 abbrev Inv-loop : tie.InvT-loop
 Inv-loop frame bytes count out₀ at₀ from₀ k₀ out at from k =

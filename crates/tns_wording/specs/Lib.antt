@@ -1,2 +1,2 @@
 -- What a reader has to believe of a record's line.
-pub mod Lines
+pub mod Wording

@@ -1,4 +1,4 @@
--- `tns_lines::put_place` meets its contract.
+-- `tns_wording::put_place` meets its contract.
 -- Assumes nothing.
 use mathlib.Core.List.{_++_}
 use native.Mathlib.Omega.{arith}
@@ -6,10 +6,10 @@ use lib.ListN.{length, take}
 use Rattle.tns_program.specs.Text.{ascii, decimal}
 use Rattle.tns_program.proofs.Texts.{put-on}
 use Rattle.tns_refusals.specs.Refusals.{refused}
-use Rattle.tns_lines.specs.Lines.{answerText}
+use Rattle.tns_wording.specs.Wording.{answerText}
 use borrow.Author.Needs.{needs}
-use Rattle.tns_lines.proofs.put_place.Statement.{statement}
-use Rattle.tns_lines.proofs.put_place.Tie as tie
+use Rattle.tns_wording.proofs.put_place.Statement.{statement}
+use Rattle.tns_wording.proofs.put_place.Tie as tie
 
 put-number-requires : tie.Need-put-number-requires
 put-number-requires c κs = search needs

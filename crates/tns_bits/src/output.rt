@@ -1,10 +1,10 @@
 // The lines of the records of a piece. Assumes nothing.
-use tns_lines::put_line;
+use tns_wording::put_line;
 ghost use mathlib.Core.Path.{_≡_};
 ghost use Prim.Native.Nat.{_+_, _*_, _≤_, _<_};
 ghost use lib.ListN.{length, take};
 ghost use Rattle.io.specs.Counts.{Counts};
-ghost use Rattle.tns_bits.specs.Lines.{linesText};
+ghost use Rattle.tns_bits.specs.Output.{linesText};
 
 // The lines of the first `count` records of some bytes, from a frame's number on. No line is longer
 // than 81 bytes.

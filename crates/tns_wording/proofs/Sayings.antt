@@ -14,7 +14,7 @@ use Rattle.tns_refusals.proofs.Refusal.{the-type}
 use Rattle.tns_cost.specs.Records.{Line, short, costs}
 use Rattle.tns_program.specs.Text.{ascii, decimal}
 use Rattle.tns_program.proofs.Decimals.{decimal-at-most}
-use Rattle.tns_lines.specs.Lines.{answerText, sayingText, lineText}
+use Rattle.tns_wording.specs.Wording.{answerText, sayingText, lineText}
 
 -- a refusal of an order or an index ends with its place, and what was found there is not said
 pub of-order : (number place found : ℕ) (why : Refusal) → why ≡ Order place found → number ≡ numberIn (says {A = Unit {0}} why) → answerText (refusedAt number place 0) ≡ answerText (says why)
@@ -38,30 +38,13 @@ without-place number Weighting keys n = ap (λ (k : ℕ). answerText (refused k)
 -- ---- the length of a line
 
 answer-at-most : (verdict : Verdict ℕ) → length (answerText verdict) ≤ 52
-answer-at-most (accepted bits) = omega (arith, length-append (decimal bits) (ascii " bits"), decimal-at-most bits)
-answer-at-most (refused number) = omega (arith, length-append (ascii "refused ") (decimal number), decimal-at-most number)
-answer-at-most (refusedAt number place found) =
-    omega (
-      arith,
-      length-append (ascii "refused " ++ decimal number ++ ascii " at ") (decimal place),
-      length-append (ascii "refused " ++ decimal number) (ascii " at "),
-      length-append (ascii "refused ") (decimal number),
-      decimal-at-most number,
-      decimal-at-most place,
-    )
+answer-at-most (accepted bits) = simp length-append (omega (arith, decimal-at-most bits))
+answer-at-most (refused number) = simp length-append (omega (arith, decimal-at-most number))
+answer-at-most (refusedAt number place found) = simp length-append (omega (arith, decimal-at-most number, decimal-at-most place))
 
 saying-at-most : (line : Line) → length (sayingText line) ≤ 52
 saying-at-most short = omega arith
 saying-at-most (costs verdict) = answer-at-most verdict
 
 pub line-at-most : (frame : ℕ) (line : Line) → length (lineText frame line) ≤ 81
-line-at-most frame line =
-    omega (
-      arith,
-      length-append (ascii "frame " ++ decimal frame ++ ascii ": " ++ sayingText line) (ascii "\n"),
-      length-append (ascii "frame " ++ decimal frame ++ ascii ": ") (sayingText line),
-      length-append (ascii "frame " ++ decimal frame) (ascii ": "),
-      length-append (ascii "frame ") (decimal frame),
-      decimal-at-most frame,
-      saying-at-most line,
-    )
+line-at-most frame line = simp length-append (omega (arith, decimal-at-most frame, saying-at-most line))

@@ -1,13 +1,13 @@
--- `tns_lines::put_saying` meets its contract: that the bytes are too few, or what the cost call answers.
+-- `tns_wording::put_saying` meets its contract: that the bytes are too few, or what the cost call answers.
 -- Assumes nothing.
 use mathlib.Core.Path.{ap, sym, _∙_}
 use lib.ListN.{length, take}
 use Rattle.tns_program.specs.Text.{after}
 use Rattle.tns_cost.specs.Records.{Line, recordSays}
-use Rattle.tns_lines.specs.Lines.{sayingText}
+use Rattle.tns_wording.specs.Wording.{sayingText}
 use borrow.Author.Needs.{needs}
-use Rattle.tns_lines.proofs.put_saying.Statement.{statement}
-use Rattle.tns_lines.proofs.put_saying.Tie as tie
+use Rattle.tns_wording.proofs.put_saying.Statement.{statement}
+use Rattle.tns_wording.proofs.put_saying.Tie as tie
 
 record-cost-requires : tie.Need-record-cost-requires
 record-cost-requires c κs = search needs

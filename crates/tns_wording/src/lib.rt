@@ -11,7 +11,7 @@ ghost use Rattle.tns_refusals.specs.Refusals.{refused, refusedAt, says};
 ghost use Rattle.tns_cost.specs.Cost.{costSays};
 ghost use Rattle.tns_cost.specs.Records.{lineOf};
 ghost use Rattle.tns_program.specs.Text.{after};
-ghost use Rattle.tns_lines.specs.Lines.{answerText, sayingText, lineText};
+ghost use Rattle.tns_wording.specs.Wording.{answerText, sayingText, lineText};
 
 fn put_number(number: u8, out: &mut [u8], at: usize) -> usize
     ensures { λ r. ⌜ Counts r (now (out .exit)) ⌝ }
