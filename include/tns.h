@@ -1,9 +1,9 @@
 /* LC3 temporal noise shaping: the three functions of libtns.a (x86-64), made by `rt staticlib tns`.
  *
- * Every call is answered, whatever numbers and list lengths are passed. A refused call writes nothing
- * anywhere. What is asked of the caller is what C cannot check: a pointer is good for its length
- * (and not null, also at length 0) and aligned for its type, and no two lists of a call overlap.
- * Calls share nothing, so threads may call side by side. docs/CONTRACTS.md has the promises.
+ * Every call is answered, whatever numbers and list lengths are passed. A refused call leaves every list
+ * as it was. What is asked of the caller is what C cannot check: a pointer is good for its length (and
+ * not null, also at length 0) and aligned for its type, and no two lists of a call overlap. Calls share
+ * nothing, so threads may call side by side. docs/CONTRACTS.md has the promises.
  *
  * The caller answers for the float environment as well: a call is to be made in the default one, with
  * rounding to nearest, no flush-to-zero, no denormals-are-zero and all exceptions masked. Audio threads
@@ -40,7 +40,7 @@ typedef struct {
     uint16_t refusal; /* 0: accepted */
     uint16_t place;   /* of refusals 6 and 7: the lowest bad place; else 0 */
     uint16_t found;   /* of refusals 6 and 7: the number found there; else 0 */
-    uint16_t bits;    /* of an accepted encode or cost; else 0 */
+    uint16_t bits;    /* of an accepted encode or cost, at most 168; else 0 */
 } tns_answer;
 
 /* Analyses and filters a spectrum in place. Refusals 1 to 3. Writes the side data (weighting, filter

@@ -75,7 +75,7 @@ pub struct SideData {
 /// What [`encode`] gives besides the filtered lines.
 #[derive(Clone, Copy, Debug, PartialEq)]
 pub struct Encoded {
-    /// The bits that the side data cost.
+    /// The bits that the side data cost, at most 168.
     pub bits: u16,
     /// What is sent.
     pub side: SideData,
@@ -140,7 +140,7 @@ pub fn decode(
     )
 }
 
-/// The bits that side data cost.
+/// The bits that side data cost, at most 168.
 #[inline]
 pub fn cost(weighting: u8, filters: u8, orders: &[u8], indices: &[u8]) -> Result<u16, Refusal> {
     sys::cost(weighting, filters, orders, indices)

@@ -78,8 +78,8 @@ pub extern "C" fn tns_decode(
 }
 
 // Encodes a spectrum in place, as `tns_encode::encode`. An accepted call writes its side data as the
-// 20 bytes of the bits program, and its coefficients; a refused one writes nothing anywhere. `flag` is
-// the near-Nyquist flag.
+// 20 bytes of the bits program, and its coefficients; a refused one leaves all three lists as they
+// were. `flag` is the near-Nyquist flag.
 #[no_mangle]
 pub extern "C" fn tns_encode(
     duration: u8,

@@ -1,13 +1,19 @@
--- Any two results that a contract allows for one input coincide: the law of `tns_refusals`, cited for each public function of this crate. The
--- part that `band_lines` hands back is a reference; what it holds is determined, and so is, by `asked_band`, where it lies.
+-- Any two results that a contract allows for one input coincide: the law of `tns_refusals`, cited for each public function of this crate. What
+-- `band_lines` hands back is a reference: any two have one place and hold the same lines, and the ghost name that a borrow has is open.
 -- Assumes nothing.
 use mathlib.Core.Path.{_≡_, refl}
+use contract.Lifetimes.{Lfts}
+use denote.Ref.{ptr, now}
+use denote.Triple.Clauses.{AtExit}
+use borrow.Fn.Kinds.{Dens, resT, endedOf}
 use Rattle.tns_refusals.proofs.Determined.{Determined, coincide, itself, answerBack, refused-back}
 use Rattle.tns_frames.specs.Frames.{frameSays}
 use Rattle.tns_frames.specs.declared.FrameAnswer.{FrameAnswer}
 use Rattle.tns_frames.specs.declared.FrameAnswer.the-variants.{Sound, Refused}
 use Rattle.tns_frames.proofs.asked_band.Kinds as asked-band-kinds
 use Rattle.tns_frames.proofs.asked_band.Reads as asked-band-reads
+use Rattle.tns_frames.proofs.band_lines.Kinds as band-lines-kinds
+use Rattle.tns_frames.proofs.band_lines.Reads as band-lines-reads
 use Rattle.tns_frames.proofs.check_frame.Kinds as check-frame-kinds
 use Rattle.tns_frames.proofs.check_frame.Reads as check-frame-reads
 
@@ -20,3 +26,7 @@ frameBack (Refused why) = refused-back Sound Refused why
 
 check-frame : Determined 0 check-frame-kinds.ps check-frame-kinds.r check-frame-reads.Post
 check-frame κs a x y s t p q = coincide frameSays (answerBack Sound Refused) frameBack p q
+
+band-lines : (κs : Lfts 1) (a : Dens κs band-lines-kinds.ps) (x y : resT band-lines-kinds.r κs .Denot) (s t : AtExit (endedOf 1 band-lines-kinds.ps band-lines-kinds.r) κs)
+    → band-lines-reads.Post κs a x s → band-lines-reads.Post κs a y t → (ptr x ≡ ptr y) × (now x ≡ now y)
+band-lines κs a x y s t p q = (itself (p .1 .0) (q .1 .0), itself (p .0) (q .0))
