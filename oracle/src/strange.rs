@@ -125,6 +125,11 @@ fn encoder_run() {
     });
     line(
         "E run",
+        "10 ms, bandwidth 0, length 81 where 80 is configured",
+        || run(80, 81, 0),
+    );
+    line(
+        "E run",
         "10 ms, bandwidth 2, falling spectrum of 240 lines",
         || run(240, 240, 2),
     );
