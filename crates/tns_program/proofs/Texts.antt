@@ -6,7 +6,7 @@ use native.Mathlib.Omega.{arith}
 use native.Mathlib.Decide.{decLt}
 use lib.ListN.{length, take}
 use borrow.Rule.Slice.PartMut.{putMid}
-use lib.Seq.{paste, take-at, take-all, take-paste, take-append-add, length-take-le, take-nil}
+use lib.Seq.{paste, take-at, take-all, take-paste, take-append-add, length-take-le}
 use Rattle.io.specs.Counts.{Counts}
 use Rattle.tns_program.specs.Text.{after}
 

@@ -3,10 +3,10 @@
 use mathlib.Core.Path.{_≡_, refl, sym, _∙_, ap}
 use mathlib.Core.Bool.{Bool, true, false, _||_, not, cond}
 use mathlib.Core.List.{List, [], _∷_}
-use Prim.Native.Nat.{ℕ, zero, suc, _+_, _≤_, _<_}
+use Prim.Native.Nat.{ℕ, zero, suc, _≤_, _<_}
 use native.Mathlib.Omega.{arith}
 use lib.Dec.{ltb, eqb}
-use borrow.Author.Tests.{ltb-true, ltb-false, eqb-true}
+use borrow.Author.Tests.{ltb-false}
 use lib.ListN.{length, getD}
 use Rattle.tns_refusals.specs.Refusals.{Verdict, accepted, refused, refusedAt, noFault, numberIn, says, check, checkAt, sideChecks, lowestOver, SoundSide}
 use Rattle.tns_refusals.specs.declared.Refusal.{Refusal}

@@ -1,7 +1,7 @@
 -- What a line says of a refusal, in the words of the function that puts it: with its place, or after its number. No line has more than 81 bytes.
 -- Assumes nothing.
-use mathlib.Core.Path.{_≡_, ap}
-use mathlib.Core.List.{List, [], _∷_, _++_}
+use mathlib.Core.Path.{_≡_, sym, ap}
+use mathlib.Core.List.{[], _∷_}
 use Prim.Native.Nat.{ℕ, _≤_}
 use native.Mathlib.Omega.{arith}
 use lib.ListN.{length, length-append}
@@ -12,16 +12,13 @@ use Rattle.tns_refusals.specs.declared.Refusal.{Refusal}
 use Rattle.tns_refusals.specs.declared.Refusal.the-variants.{Duration, Bandwidth, SpectrumLength, ListLength, FilterCount, Order, Index, Weighting}
 use Rattle.tns_refusals.proofs.Refusal.{the-type}
 use Rattle.tns_cost.specs.Records.{Line, short, costs}
-use Rattle.tns_program.specs.Text.{ascii, decimal}
 use Rattle.tns_program.proofs.Decimals.{decimal-at-most}
 use Rattle.tns_wording.specs.Wording.{answerText, sayingText, lineText}
 
 -- a refusal of an order or an index ends with its place, and what was found there is not said
-pub of-order : (number place found : ℕ) (why : Refusal) → why ≡ Order place found → number ≡ numberIn (says {A = Unit {0}} why) → answerText (refusedAt number place 0) ≡ answerText (says why)
-of-order number place found why e n = rw (n, e)
-
-pub of-index : (number place found : ℕ) (why : Refusal) → why ≡ Index place found → number ≡ numberIn (says {A = Unit {0}} why) → answerText (refusedAt number place 0) ≡ answerText (says why)
-of-index number place found why e n = rw (n, e)
+pub with-place : (number place found : ℕ) (why named : Refusal) → why ≡ named → says {A = ℕ} named ≡ refusedAt (numberIn (says {A = Unit {0}} named)) place found
+    → number ≡ numberIn (says {A = Unit {0}} why) → answerText (refusedAt number place 0) ≡ answerText (says why)
+with-place number place found why named e s n = rw (n, e) (sym (ap answerText s))
 
 -- every other ends after its number
 pub without-place : (number : ℕ) (why : Refusal) → OneOf (0 ∷ 1 ∷ 2 ∷ 3 ∷ 4 ∷ 7 ∷ []) (tagOf the-type why) → number ≡ numberIn (says {A = Unit {0}} why)

@@ -7,7 +7,6 @@ use Rattle.tns_refusals.specs.Refusals.{numberIn, placeIn, foundIn, bitsIn, noB
 use Rattle.tns_refusals.specs.declared.Refusal.{Refusal}
 use Rattle.tns_refusals.proofs.Sides.{by-refusal}
 use Rattle.tns.specs.Answers.{told}
-use Rattle.tns.specs.declared.Answer.{Answer}
 use Rattle.tns.proofs.refused.Statement.{statement}
 use Rattle.tns.proofs.refused.Tie as tie
 

@@ -1,7 +1,7 @@
 -- `tns::tns_decode` meets its contract: it tells what the decode door says, and leaves the lines that the door leaves.
 -- Assumes nothing.
-use mathlib.Core.Path.{_≡_, refl, sym, _∙_, ap, subst}
-use Prim.Native.Nat.{ℕ, _≤_}
+use mathlib.Core.Path.{_≡_, sym, _∙_, ap, subst}
+use Prim.Native.Nat.{_≤_}
 use borrow.Author.Needs.{needs}
 use lib.ListN.{length}
 use Rattle.tns_refusals.specs.Refusals.{Verdict, noFault, placeIn, noBits, says}

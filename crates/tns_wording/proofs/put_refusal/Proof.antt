@@ -1,9 +1,10 @@
 -- `tns_wording::put_refusal` meets its contract: each refusal with its place, or after its number.
 -- Assumes nothing.
-use mathlib.Core.Path.{ap, _∙_}
+use mathlib.Core.Path.{refl, ap, _∙_}
 use lib.ListN.{length, take}
+use Rattle.tns_refusals.specs.declared.Refusal.the-variants.{Order, Index}
 use Rattle.tns_program.specs.Text.{after}
-use Rattle.tns_wording.proofs.Sayings.{of-order, of-index, without-place}
+use Rattle.tns_wording.proofs.Sayings.{with-place, without-place}
 use borrow.Author.Needs.{needs}
 use Rattle.tns_wording.proofs.put_refusal.Statement.{statement}
 use Rattle.tns_wording.proofs.put_refusal.Tie as tie
@@ -38,7 +39,7 @@ returns c =
     let order = matched .why .given .0 in (
       placed .put-place .ensures .0,
       placed .put-place .ensures .1
-          ∙ ap (after (length (g .out .now)) (take (g .at) (g .out .now))) (of-order (called .number .result) (order .0) (order .1 .0) (g .why) (matched .why .given .1) (called .number .ensures)),
+          ∙ ap (after (length (g .out .now)) (take (g .at) (g .out .now))) (with-place (called .number .result) (order .0) (order .1 .0) (g .why) (Order (order .0) (order .1 .0)) (matched .why .given .1) refl (called .number .ensures)),
     )
 
 same-length-2 : tie.Need-same-length-2
@@ -53,7 +54,7 @@ returns-2 c =
     let index = matched .why2 .given .0 in (
       placed .put-place2 .ensures .0,
       placed .put-place2 .ensures .1
-          ∙ ap (after (length (g .out .now)) (take (g .at) (g .out .now))) (of-index (called .number .result) (index .0) (index .1 .0) (g .why) (matched .why2 .given .1) (called .number .ensures)),
+          ∙ ap (after (length (g .out .now)) (take (g .at) (g .out .now))) (with-place (called .number .result) (index .0) (index .1 .0) (g .why) (Index (index .0) (index .1 .0)) (matched .why2 .given .1) refl (called .number .ensures)),
     )
 
 same-length-3 : tie.Need-same-length-3

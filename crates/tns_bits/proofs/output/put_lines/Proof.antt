@@ -1,14 +1,12 @@
 -- `tns_bits::output::put_lines` meets its contract: a line for each record, each after those before it.
 -- Assumes nothing.
-use mathlib.Core.Path.{_≡_, refl, sym, ap, _∙_}
+use mathlib.Core.Path.{_≡_, refl, ap, _∙_}
 use mathlib.Core.List.{List, []}
-use Prim.Native.Nat.{ℕ, zero, suc, _+_, _-_, _*_, _≤_}
+use Prim.Native.Nat.{ℕ, _+_, _-_, _*_, _≤_}
 use native.Mathlib.Omega.{arith}
-use native.Mathlib.Numerals.{add-one}
 use borrow.Author.Needs.{needs}
 use lib.ListN.{length, take}
 use Rattle.io.specs.Counts.{Counts}
-use Rattle.io.proofs.Counting.{counts}
 use Rattle.tns_cost.specs.Records.{lineOf}
 use Rattle.tns_program.specs.Text.{after}
 use Rattle.tns_program.proofs.Texts.{put-on}
