@@ -2,9 +2,6 @@
 // the bits that it costs, or why it is refused. The lines of the records read are proved to be those
 // of document 01; that they are read and written is tested. What was read before input ends or fails
 // is answered. Assumes nothing.
-mod output;
-
-use output::put_lines;
 use tns_program::Read;
 use tns_program::keep;
 use tns_program::read_after;
@@ -13,6 +10,8 @@ use tns_wording::put_line;
 ghost use mathlib.Core.Path.{_≡_};
 ghost use Prim.Native.Nat.{_+_, _*_, _/_, _%_, _≤_, _<_};
 ghost use lib.ListN.{length, take, drop};
+ghost use Rattle.io.specs.Counts.{Counts};
+ghost use Rattle.tns_bits.specs.Output.{linesText};
 
 // Where the program stands between two reads: the next frame's number, how many bytes of a record not
 // yet whole are held at the start of the piece, and whether there is more to do.
@@ -20,6 +19,25 @@ struct Standing {
     frame: u64,
     held: usize,
     goes_on: bool,
+}
+
+// The lines of the first `count` records of some bytes, from a frame's number on. No line is longer
+// than 81 bytes.
+fn put_lines(frame: u64, bytes: &[u8], count: usize, out: &mut [u8]) -> usize
+    requires { ⌜ 20 * count ≤ length (now bytes) ⌝ }
+    requires { ⌜ 81 * count ≤ length (now out) ⌝ }
+    requires { ⌜ frame + count < 18446744073709551616 ⌝ }
+    ensures { λ r. ⌜ Counts r (now (out .exit)) ⌝ }
+    ensures { λ r. ⌜ take r (now (out .exit)) ≡ linesText frame (now (bytes .entry)) count ⌝ }
+{
+    let mut at = 0;
+    let mut from = 0usize;
+    for k in 0..count {
+        let end = from + 20;
+        at = put_line(frame + k as u64, &bytes[from..end], out, at);
+        from = end;
+    }
+    at
 }
 
 // Input has ended, or failed: what is held is a record cut short.

@@ -61,6 +61,7 @@ pub fn keep(piece: &mut [u8], from: usize, count: usize)
 }
 
 // Writes all of a text to standard output, and answers whether it could. A failure is said at once.
+// It has no promise: no contract can say what a call writes, nor whether the system takes it.
 pub fn write(text: &[u8]) -> bool {
     let is_written = io::write_all(STDOUT_FILENO, text);
     if !is_written {
