@@ -6,7 +6,7 @@ use Prim.Native.Nat.{ℕ, _^_, _≤_, _<_}
 use native.Mathlib.Omega.{arith}
 use lib.Ieee.{Float}
 use lib.ListN.{length, getD}
-use Rattle.tns_refusals.specs.Refusals.{accepted, refused, refusedAt, noFault, placeIn, noBits, itsBits, sideChecks}
+use Rattle.tns_refusals.specs.Refusals.{Verdict, accepted, refused, refusedAt, noFault, placeIn, noBits, itsBits}
 use Rattle.tns_refusals.proofs.Checks.{sides-by}
 use Rattle.tns_cost.specs.Cost.{costOf}
 use Rattle.tns_cost.proofs.Costs.{cost-by, counted-at-most}
@@ -31,17 +31,28 @@ cost-place weighting filters orders indices =
     (omega arith)
     (λ sound. omega arith)
 
+-- what holds of each refusal that the decode call can give, and of an accepted one, holds of what it says
+decode-by : (P : Verdict (Unit {0}) → Type 0) (duration bandwidth filters : ℕ) (orders indices : List ℕ) (lines : ℕ)
+    → P (refused 1) → P (refused 2) → P (refused 3) → P (refused 4) → P (refused 5)
+    → ((place : ℕ) → place < 2 → P (refusedAt 6 place (getD orders place 0)))
+    → ((place : ℕ) → place < 16 → P (refusedAt 7 place (getD indices place 0)))
+    → P noFault → P (decodeChecks duration bandwidth filters orders indices lines)
+unfolding decodeChecks
+decode-by P duration bandwidth filters orders indices lines stops1 stops2 stops3 stops4 stops5 stops6 stops7 goes =
+    frames-by P duration bandwidth lines _ stops1 stops2 stops3 (sides-by P filters orders indices noFault stops4 stops5 stops6 stops7 (λ sound. goes))
+
 pub decode-place : (duration bandwidth filters : ℕ) (orders indices : List ℕ) (lines : ℕ)
     → placeIn (decodeChecks duration bandwidth filters orders indices lines) ≤ 15
-unfolding decodeChecks
 decode-place duration bandwidth filters orders indices lines =
-    frames-by (λ v. placeIn v ≤ 15) duration bandwidth lines (sideChecks filters orders indices noFault) (omega arith) (omega arith) (omega arith)
-    (sides-by (λ v. placeIn v ≤ 15) filters orders indices noFault
+    decode-by (λ v. placeIn v ≤ 15) duration bandwidth filters orders indices lines
+    (omega arith)
+    (omega arith)
+    (omega arith)
     (omega arith)
     (omega arith)
     (λ place h. omega (arith, h))
     (λ place h. omega (arith, h))
-    (λ sound. omega arith))
+    (omega arith)
 
 pub encode-place : (duration bandwidth bits : ℕ) (flag : Bool) (lines : List Float) → placeIn (bitsVerdict (encodeVerdict duration bandwidth bits flag lines)) ≤ 15
 unfolding encodeVerdict
@@ -83,18 +94,16 @@ module _ (orders indices : List ℕ) (order-bytes : (i : ℕ) → getD orders i 
       (λ sound. with-bits itsBits _ (counted-at-most weighting filters orders indices sound))
 
   pub decode-small : (duration bandwidth filters lines : ℕ) → Small (told noBits (decodeChecks duration bandwidth filters orders indices lines))
-  unfolding decodeChecks
   decode-small duration bandwidth filters lines =
-      frames-by (λ v. Small (told noBits v)) duration bandwidth lines _
+      decode-by (λ v. Small (told noBits v)) duration bandwidth filters orders indices lines
       (by-number noBits 1 (omega arith))
       (by-number noBits 2 (omega arith))
       (by-number noBits 3 (omega arith))
-      (sides-by (λ v. Small (told noBits v)) filters orders indices noFault
       (by-number noBits 4 (omega arith))
       (by-number noBits 5 (omega arith))
       (λ place h. at-place noBits 6 place _ (omega arith) (omega (arith, h)) (order-bytes place))
       (λ place h. at-place noBits 7 place _ (omega arith) (omega (arith, h)) (index-bytes place))
-      (λ sound. with-bits noBits tt (omega arith)))
+      (with-bits noBits tt (omega arith))
 
 pub encode-small : (duration bandwidth bits : ℕ) (flag : Bool) (lines : List Float) → Small (told itsBits (bitsVerdict (encodeVerdict duration bandwidth bits flag lines)))
 unfolding encodeVerdict

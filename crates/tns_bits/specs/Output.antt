@@ -1,4 +1,4 @@
--- The lines of some records, one after the other: what the program writes. Assumes nothing.
+-- Document 01, "The program reads 20-byte records": one line each, in order, numbered on. Assumes nothing.
 use mathlib.Core.List.{List, [], _++_}
 use Prim.Native.Nat.{ℕ, zero, suc, _+_, _*_}
 use lib.ListN.{take, drop}

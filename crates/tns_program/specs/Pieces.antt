@@ -3,8 +3,8 @@ use Prim.Native.Nat.{ℕ, _+_, _≤_, _<_}
 use Rattle.tns_program.specs.declared.streams.Read.{Read}
 use Rattle.tns_program.specs.declared.streams.Read.the-variants.{Bytes, End, Failed}
 
--- bytes that were read are one at least, and lie within a piece of such a length, after those that it held
+-- bytes that were read are one at least, and lie after those held, within a piece that has room for so many
 abbrev pub Within : ℕ → ℕ → Read → Type 0
-Within held length (Bytes count) = (0 < count) × (held + count ≤ length)
-Within held length End = Unit {0}
-Within held length Failed = Unit {0}
+Within held room (Bytes count) = (0 < count) × (held + count ≤ room)
+Within held room End = Unit {0}
+Within held room Failed = Unit {0}
