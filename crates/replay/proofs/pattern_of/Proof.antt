@@ -27,8 +27,7 @@ returns c = its-pattern (c .before .args .x) (c .if1 .taken)
 float-to-bits-result : tie.Need-float-to-bits-result
 float-to-bits-result c = no-nan (c .before .args .x) (c .if1 .left)
 
-returns-2 : tie.Need-returns-2
-returns-2 c = search needs
-
 pub pattern-of-spec : {M : Type 1} → statement M
-pattern-of-spec = tie.close (tie.spec returns float-to-bits-result returns-2)
+pattern-of-spec = tie.close (tie.spec returns
+    float-to-bits-result
+    (λ c. search needs))

@@ -14,32 +14,8 @@ Inv-loop list lines₀ i₀ i-end lines i = (i ≤ i-end) × (i-end ≡ length l
 abbrev μ-loop : tie.MeasureT-loop
 μ-loop list lines₀ i₀ i-end lines i = i-end - i
 
-loop-holds : tie.Need-loop-holds Inv-loop μ-loop
-loop-holds c = search needs
-
-given-line-requires : tie.Need-given-line-requires Inv-loop μ-loop
-given-line-requires c κs = search needs
-
-mul-lines : tie.Need-mul-lines Inv-loop μ-loop
-mul-lines c = search needs
-
-slice-write-lines : tie.Need-slice-write-lines Inv-loop μ-loop
-slice-write-lines c = search needs
-
-add-i : tie.Need-add-i Inv-loop μ-loop
-add-i c = search needs
-
-loop-less : tie.Need-loop-less Inv-loop μ-loop
-loop-less c = search needs
-
 loop-again : tie.Need-loop-again Inv-loop μ-loop
 loop-again c = simp length-set (omega arith)
-
-same-length : tie.Need-same-length Inv-loop μ-loop
-same-length c = search needs
-
-returns : tie.Need-returns Inv-loop μ-loop
-returns c = search needs
 
 pub read-lines-spec : {M : Type 1} → statement M
 read-lines-spec =
@@ -47,12 +23,12 @@ read-lines-spec =
     (tie.spec
     Inv-loop
     μ-loop
-    loop-holds
-    given-line-requires
-    mul-lines
-    slice-write-lines
-    add-i
-    loop-less
+    (λ c. search needs)
+    (λ c κs. search needs)
+    (λ c. search needs)
+    (λ c. search needs)
+    (λ c. search needs)
+    (λ c. search needs)
     loop-again
-    same-length
-    returns)
+    (λ c. search needs)
+    (λ c. search needs))

@@ -17,24 +17,6 @@ own-numbers : (why : Refusal) (n p f : ℕ) → n ≡ numberIn (says {A = Unit {
     → record { refusal = n; place = p; found = f; bits = 0 } ≡ told noBits (says why)
 own-numbers why n p f en ep ef = cc (no-bits why)
 
-number-requires : tie.Need-number-requires
-number-requires c κs = search needs
-
-cast-t3 : tie.Need-cast-t3
-cast-t3 c = search needs
-
-place-requires : tie.Need-place-requires
-place-requires c κs = search needs
-
-cast-t5 : tie.Need-cast-t5
-cast-t5 c = search needs
-
-found-requires : tie.Need-found-requires
-found-requires c κs = search needs
-
-cast-t7 : tie.Need-cast-t7
-cast-t7 c = search needs
-
 returns : tie.Need-returns
 returns c =
     own-numbers (c .before .before .before .args .why) _ _ _ (c .before .before .number .ensures) (c .before .place .ensures) (c .found .ensures)
@@ -42,4 +24,10 @@ returns c =
 pub refused-spec : {M : Type 1} → statement M
 refused-spec =
     tie.close
-    (tie.spec number-requires cast-t3 place-requires cast-t5 found-requires cast-t7 returns)
+    (tie.spec (λ c κs. search needs)
+    (λ c. search needs)
+    (λ c κs. search needs)
+    (λ c. search needs)
+    (λ c κs. search needs)
+    (λ c. search needs)
+    returns)

@@ -25,18 +25,6 @@ said : (c : tie.After-answer2) →
     says (c .answer2 .given .0 .0) ≡ costOf (g .weighting) (g .filters) (g .orders .now) (g .indices .now)
 said c = sym (ap costSays (c .answer2 .given .1)) ∙ c .before .before .cost .ensures .0
 
-cost-requires : tie.Need-cost-requires
-cost-requires c κs = search needs
-
-enum-known-answer : tie.Need-enum-known-answer
-enum-known-answer c = search needs
-
-accepted-requires : tie.Need-accepted-requires
-accepted-requires c κs = search needs
-
-enum-known-answer-2 : tie.Need-enum-known-answer-2
-enum-known-answer-2 c = search needs
-
 refused-requires : tie.Need-refused-requires
 refused-requires c κs =
     let g = c .before .before .before .before .before .before .args in
@@ -67,10 +55,10 @@ pub tns-cost-spec : {M : Type 1} → statement M
 tns-cost-spec =
     tie.close
     (tie.spec
-    cost-requires
-    enum-known-answer
-    accepted-requires
-    enum-known-answer-2
+    (λ c κs. search needs)
+    (λ c. search needs)
+    (λ c κs. search needs)
+    (λ c. search needs)
     refused-requires
     returns
     returns-2)

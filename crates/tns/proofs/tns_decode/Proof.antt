@@ -22,33 +22,15 @@ decoded : (c : tie.After-enum-told) →
     noFault ≡ decodeChecks (g .duration) (g .bandwidth) (g .filters) (g .orders .now) (g .indices .now) (length (g .lines .now))
 decoded c = sym (ap decodeSays (c .enum-told .given .1)) ∙ c .before .before .before .before .decode .ensures .0
 
-decode-requires : tie.Need-decode-requires
-decode-requires c κs = search needs
-
-enum-told : tie.Need-enum-told
-enum-told c = search needs
-
-accepted-requires : tie.Need-accepted-requires
-accepted-requires c κs = search needs
-
-enum-known-answer : tie.Need-enum-known-answer
-enum-known-answer c = search needs
-
 refused-requires : tie.Need-refused-requires
 refused-requires c κs =
     let g = c .before .before .before .before .before .before .before .before .before .before .args in
     subst (λ (v : Verdict (Unit {0})). placeIn v ≤ 15) (sym (said (c .before)))
     (decode-place (g .duration) (g .bandwidth) (g .filters) (g .orders .now) (g .indices .now) (length (g .lines .now)))
 
-same-length : tie.Need-same-length
-same-length c = search needs
-
 returns : tie.Need-returns
 returns c =
     (c .accepted .ensures ∙ ap (told noBits) (decoded (c .before)), c .before .before .before .before .before .decode .ensures .1)
-
-same-length-2 : tie.Need-same-length-2
-same-length-2 c = search needs
 
 returns-2 : tie.Need-returns-2
 returns-2 c =
@@ -58,12 +40,12 @@ pub tns-decode-spec : {M : Type 1} → statement M
 tns-decode-spec =
     tie.close
     (tie.spec
-    decode-requires
-    enum-told
-    accepted-requires
-    enum-known-answer
+    (λ c κs. search needs)
+    (λ c. search needs)
+    (λ c κs. search needs)
+    (λ c. search needs)
     refused-requires
-    same-length
+    (λ c. search needs)
     returns
-    same-length-2
+    (λ c. search needs)
     returns-2)

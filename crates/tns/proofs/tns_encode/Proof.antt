@@ -46,12 +46,6 @@ near-of row v said side before after e f near = of-verdict v (subst (λ (s : Sid
 few : (answer : Answer) (v : Verdict SideData) → bitsIn itsBits (bitsVerdict v) ≤ 168 → answer ≡ told itsBits (bitsVerdict v) → answer .bits ≤ 168
 few answer v h e = subst (λ (a : Answer). a .bits ≤ 168) (sym e) h
 
-encode-requires : tie.Need-encode-requires
-encode-requires c κs = search needs
-
-enum-known-answer : tie.Need-enum-known-answer
-enum-known-answer c = search needs
-
 refused-requires : tie.Need-refused-requires
 refused-requires c κs =
     let answered = c .before in
@@ -59,21 +53,6 @@ refused-requires c κs =
     let why = answered .answer .given .0 .0 in
     subst (λ (p : ℕ). p ≤ 15) (sym (ap (λ (v : Verdict ℕ). placeIn v) (said answered)) ∙ ap (λ (a : Answer). a .place) (refused-told itsBits noBits why))
     (encode-place (g .duration) (g .bandwidth) (g .bits) (g .flag) (g .lines .now))
-
-enum-known-answer-2 : tie.Need-enum-known-answer-2
-enum-known-answer-2 c = search needs
-
-record-of-requires : tie.Need-record-of-requires
-record-of-requires c κs = search needs
-
-coefficients-of-requires : tie.Need-coefficients-of-requires
-coefficients-of-requires c κs = search needs
-
-accepted-requires : tie.Need-accepted-requires
-accepted-requires c κs = search needs
-
-same-length : tie.Need-same-length
-same-length c = search needs
 
 returns : tie.Need-returns
 returns c =
@@ -89,9 +68,6 @@ returns c =
       answer,
       (door .1 .1 .0, (writes .0, (writes .1, (near-of row v _ (encoded .encode .result .side) (g .lines .now) _ (door .0) (door .1 .0) (door .1 .1 .1 .0), few (c .refused .result) v (encode-at-most (g .duration) (g .bandwidth) (g .bits) (g .flag) (g .lines .now)) answer)))),
     )
-
-same-length-2 : tie.Need-same-length-2
-same-length-2 c = search needs
 
 returns-2 : tie.Need-returns-2
 returns-2 c =
@@ -113,14 +89,14 @@ pub tns-encode-spec : {M : Type 1} → statement M
 tns-encode-spec =
     tie.close
     (tie.spec
-    encode-requires
-    enum-known-answer
+    (λ c κs. search needs)
+    (λ c. search needs)
     refused-requires
-    enum-known-answer-2
-    record-of-requires
-    coefficients-of-requires
-    accepted-requires
-    same-length
+    (λ c. search needs)
+    (λ c κs. search needs)
+    (λ c κs. search needs)
+    (λ c κs. search needs)
+    (λ c. search needs)
     returns
-    same-length-2
+    (λ c. search needs)
     returns-2)

@@ -35,24 +35,6 @@ module _ (b : Band) (lines : List Float) (flag : Bool) (weighting : ℕ) where
   unfolding reflectionsOf
   off-is g eg off = rw (← eg, off)
 
-autocorrelated-requires : tie.Need-autocorrelated-requires
-autocorrelated-requires c κs = search needs
-
-predict-requires : tie.Need-predict-requires
-predict-requires c κs = search needs
-
-array-read-gain-record : tie.Need-array-read-gain-record
-array-read-gain-record c = search needs
-
-gain-record-requires : tie.Need-gain-record-requires
-gain-record-requires c κs = search needs
-
-damped-row-requires : tie.Need-damped-row-requires
-damped-row-requires c κs = search needs
-
-reflected-row-requires : tie.Need-reflected-row-requires
-reflected-row-requires c κs = search needs
-
 returns : tie.Need-returns
 returns c =
     let damping = c .before in
@@ -86,11 +68,11 @@ pub analyse-spec : {M : Type 1} → statement M
 analyse-spec =
     tie.close
     (tie.spec
-    autocorrelated-requires
-    predict-requires
-    array-read-gain-record
-    gain-record-requires
-    damped-row-requires
-    reflected-row-requires
+    (λ c κs. search needs)
+    (λ c κs. search needs)
+    (λ c. search needs)
+    (λ c κs. search needs)
+    (λ c κs. search needs)
+    (λ c κs. search needs)
     returns
     returns-2)

@@ -28,30 +28,6 @@ loop-holds c =
     let g = c .before .before .args in
     (refl, omega arith, refl, (omega arith, refl), no-lines (length (g .out .now)) (g .frame) (g .bytes .now))
 
-add-end : tie.Need-add-end Inv-loop μ-loop
-add-end c = omega arith
-
-add-put-line : tie.Need-add-put-line Inv-loop μ-loop
-add-put-line c = omega arith
-
-sub-put-line : tie.Need-sub-put-line Inv-loop μ-loop
-sub-put-line c = omega arith
-
-part-put-line-start : tie.Need-part-put-line-start Inv-loop μ-loop
-part-put-line-start c = omega arith
-
-part-put-line-end : tie.Need-part-put-line-end Inv-loop μ-loop
-part-put-line-end c = omega arith
-
-put-line-requires : tie.Need-put-line-requires Inv-loop μ-loop
-put-line-requires c κs = search needs
-
-add-k : tie.Need-add-k Inv-loop μ-loop
-add-k c = omega arith
-
-loop-less : tie.Need-loop-less Inv-loop μ-loop
-loop-less c = omega arith
-
 loop-again : tie.Need-loop-again Inv-loop μ-loop
 loop-again c =
     let put = c .before .before in
@@ -68,9 +44,6 @@ loop-again c =
       put-on room (length (l .out)) [] lines line _ _ (l .inv .4) (put .put-line .ensures .1 ∙ here) (l .inv .0) ∙ one-more room (g .frame) (l .k) (g .bytes .now),
     )
 
-same-length : tie.Need-same-length Inv-loop μ-loop
-same-length c = omega arith
-
 returns : tie.Need-returns Inv-loop μ-loop
 returns c =
     let l = c .before .loop in
@@ -85,14 +58,14 @@ put-lines-spec =
     Inv-loop
     μ-loop
     loop-holds
-    add-end
-    add-put-line
-    sub-put-line
-    part-put-line-start
-    part-put-line-end
-    put-line-requires
-    add-k
-    loop-less
+    (λ c. omega arith)
+    (λ c. omega arith)
+    (λ c. omega arith)
+    (λ c. omega arith)
+    (λ c. omega arith)
+    (λ c κs. search needs)
+    (λ c. omega arith)
+    (λ c. omega arith)
     loop-again
-    same-length
+    (λ c. omega arith)
     returns)

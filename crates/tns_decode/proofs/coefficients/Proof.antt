@@ -24,21 +24,6 @@ shared-slice-read-decoder-coefficient :
     tie.Need-shared-slice-read-decoder-coefficient Inv-loop μ-loop
 shared-slice-read-decoder-coefficient c = omega (arith, c .before .before .before .before .pre)
 
-decoder-coefficient-requires : tie.Need-decoder-coefficient-requires Inv-loop μ-loop
-decoder-coefficient-requires c κs = search needs
-
-mul-q : tie.Need-mul-q Inv-loop μ-loop
-mul-q c = omega arith
-
-array-write-q : tie.Need-array-write-q Inv-loop μ-loop
-array-write-q c = omega arith
-
-add-k : tie.Need-add-k Inv-loop μ-loop
-add-k c = omega arith
-
-loop-less : tie.Need-loop-less Inv-loop μ-loop
-loop-less c = omega arith
-
 loop-again : tie.Need-loop-again Inv-loop μ-loop
 loop-again c =
     let l = c .before .before .before .loop in
@@ -63,10 +48,10 @@ coefficients-spec =
     μ-loop
     loop-holds
     shared-slice-read-decoder-coefficient
-    decoder-coefficient-requires
-    mul-q
-    array-write-q
-    add-k
-    loop-less
+    (λ c κs. search needs)
+    (λ c. omega arith)
+    (λ c. omega arith)
+    (λ c. omega arith)
+    (λ c. omega arith)
     loop-again
     returns)

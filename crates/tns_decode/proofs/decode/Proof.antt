@@ -25,24 +25,6 @@ side-passed : (c : tie.After-enum-told) →
     noFault ≡ sideChecks (g .filters) (g .orders .now) (g .indices .now) noFault
 side-passed c = sym (ap sideSays (c .enum-told .given .1)) ∙ c .before .before .check-side .ensures
 
-check-frame-requires : tie.Need-check-frame-requires
-check-frame-requires c κs = search needs
-
-enum-known-frame : tie.Need-enum-known-frame
-enum-known-frame c = search needs
-
-enum-known-frame-2 : tie.Need-enum-known-frame-2
-enum-known-frame-2 c = search needs
-
-check-side-requires : tie.Need-check-side-requires
-check-side-requires c κs = search needs
-
-enum-known-side : tie.Need-enum-known-side
-enum-known-side c = search needs
-
-enum-told : tie.Need-enum-told
-enum-told c = search needs
-
 acting-decoded-requires : tie.Need-acting-decoded-requires
 acting-decoded-requires c κs =
     let told = c .before in
@@ -70,9 +52,6 @@ returns-2 c =
     let e = sym (ap sideSays (c .before .side .given .1)) ∙ c .before .before .before .check-side .ensures ∙ sym (rest .1) in
     (e, refused-spectrum (g .duration) (g .bandwidth) (g .filters) (g .orders .now) (g .indices .now) (g .lines .now) why e)
 
-same-length : tie.Need-same-length
-same-length c = search needs
-
 returns-3 : tie.Need-returns-3
 returns-3 c =
     let told = c .before .before .before .before in
@@ -90,14 +69,14 @@ pub decode-spec : {M : Type 1} → statement M
 decode-spec =
     tie.close
     (tie.spec
-    check-frame-requires
-    enum-known-frame
-    enum-known-frame-2
-    check-side-requires
-    enum-known-side
-    enum-told
+    (λ c κs. search needs)
+    (λ c. search needs)
+    (λ c. search needs)
+    (λ c κs. search needs)
+    (λ c. search needs)
+    (λ c. search needs)
     acting-decoded-requires
     returns
     returns-2
-    same-length
+    (λ c. search needs)
     returns-3)

@@ -17,11 +17,10 @@ returns : tie.Need-returns
 unfolding decoderCoefficient
 returns c = rw (c .if1 .taken)
 
-coefficient-of-requires : tie.Need-coefficient-of-requires
-coefficient-of-requires c κs = search needs
-
 returns-2 : tie.Need-returns-2
 returns-2 c = c .coefficient-of .ensures ∙ not-zero (c .before .before .args .index) (c .before .if1 .left)
 
 pub decoder-coefficient-spec : {M : Type 1} → statement M
-decoder-coefficient-spec = tie.close (tie.spec returns coefficient-of-requires returns-2)
+decoder-coefficient-spec = tie.close (tie.spec returns
+    (λ c κs. search needs)
+    returns-2)

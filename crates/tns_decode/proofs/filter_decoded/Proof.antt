@@ -28,27 +28,6 @@ returns c =
     let xs = g .lines .now in
     rw (c .if1 .taken) (order-0 q (g .states) (inside (g .band) xs) .0, order-0-within (g .band) q (g .states) xs (start .pre .0 .order))
 
-coefficients-requires : tie.Need-coefficients-requires
-coefficients-requires c κs = search needs
-
-mul-band-decoded : tie.Need-mul-band-decoded
-mul-band-decoded c = search needs
-
-sub-band-decoded : tie.Need-sub-band-decoded
-sub-band-decoded c = search needs
-
-part-band-decoded-start : tie.Need-part-band-decoded-start
-part-band-decoded-start c = search needs
-
-part-band-decoded-end : tie.Need-part-band-decoded-end
-part-band-decoded-end c = search needs
-
-band-decoded-requires : tie.Need-band-decoded-requires
-band-decoded-requires c κs = search needs
-
-same-length : tie.Need-same-length
-same-length c = search needs
-
 returns-2 : tie.Need-returns-2
 returns-2 c =
     let start = c .before .before .before .before .before .before .before .before in
@@ -68,11 +47,11 @@ filter-decoded-spec =
     tie.close
     (tie.spec
     returns
-    coefficients-requires
-    mul-band-decoded
-    sub-band-decoded
-    part-band-decoded-start
-    part-band-decoded-end
-    band-decoded-requires
-    same-length
+    (λ c κs. search needs)
+    (λ c. search needs)
+    (λ c. search needs)
+    (λ c. search needs)
+    (λ c. search needs)
+    (λ c κs. search needs)
+    (λ c. search needs)
     returns-2)

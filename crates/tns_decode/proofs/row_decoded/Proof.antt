@@ -26,18 +26,6 @@ returns c =
     let g = c .before .before .before .before .args in
     rw (c .if1 .taken) (none-decoded (g .row) (g .orders .now) (g .indices .now) (g .lines .now))
 
-shared-slice-read-filter-decoded : tie.Need-shared-slice-read-filter-decoded
-shared-slice-read-filter-decoded c = search needs
-
-sub-filter-decoded : tie.Need-sub-filter-decoded
-sub-filter-decoded c = search needs
-
-part-filter-decoded-start : tie.Need-part-filter-decoded-start
-part-filter-decoded-start c = search needs
-
-part-filter-decoded-end : tie.Need-part-filter-decoded-end
-part-filter-decoded-end c = search needs
-
 filter-decoded-requires : tie.Need-filter-decoded-requires
 filter-decoded-requires c κs =
     let start = c .before .before .before .before .before .before .before in
@@ -50,26 +38,11 @@ filter-decoded-requires c κs =
       ),
     )
 
-same-length : tie.Need-same-length
-same-length c = search needs
-
 returns-2 : tie.Need-returns-2
 returns-2 c =
     let start = c .before .before .before .before .before .before .before .before .before .before .before in
     let g = start .args in
     c .before .before .before .filter-decoded .ensures .1 ∙ rw (c .if2 .taken) (one-decoded (g .row) (g .orders .now) (g .indices .now) (g .lines .now))
-
-shared-slice-read-filter-decoded-2 : tie.Need-shared-slice-read-filter-decoded-2
-shared-slice-read-filter-decoded-2 c = search needs
-
-sub-filter-decoded-2 : tie.Need-sub-filter-decoded-2
-sub-filter-decoded-2 c = search needs
-
-part-filter-decoded-start-2 : tie.Need-part-filter-decoded-start-2
-part-filter-decoded-start-2 c = search needs
-
-part-filter-decoded-end-2 : tie.Need-part-filter-decoded-end-2
-part-filter-decoded-end-2 c = search needs
 
 filter-decoded-requires-2 : tie.Need-filter-decoded-requires-2
 filter-decoded-requires-2 c κs =
@@ -83,9 +56,6 @@ filter-decoded-requires-2 c κs =
         eight (g .indices .now) (side .sixteen-indices),
       ),
     )
-
-same-length-2 : tie.Need-same-length-2
-same-length-2 c = search needs
 
 returns-3 : tie.Need-returns-3
 returns-3 c =
@@ -107,17 +77,17 @@ row-decoded-spec =
     tie.close
     (tie.spec
     returns
-    shared-slice-read-filter-decoded
-    sub-filter-decoded
-    part-filter-decoded-start
-    part-filter-decoded-end
+    (λ c. search needs)
+    (λ c. search needs)
+    (λ c. search needs)
+    (λ c. search needs)
     filter-decoded-requires
-    same-length
+    (λ c. search needs)
     returns-2
-    shared-slice-read-filter-decoded-2
-    sub-filter-decoded-2
-    part-filter-decoded-start-2
-    part-filter-decoded-end-2
+    (λ c. search needs)
+    (λ c. search needs)
+    (λ c. search needs)
+    (λ c. search needs)
     filter-decoded-requires-2
-    same-length-2
+    (λ c. search needs)
     returns-3)

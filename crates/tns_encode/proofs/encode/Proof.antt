@@ -53,24 +53,6 @@ few said duration bandwidth nbits flag lines e =
 near-of : (row : Row) (s side : SideData) (before after lines : List Float) → s ≡ side → after ≡ lines → NearExact row side before lines → NearExact row s before after
 near-of row s side before after lines e f near = rw (e, f) near
 
-check-frame-requires : tie.Need-check-frame-requires
-check-frame-requires c κs = search needs
-
-enum-known-frame : tie.Need-enum-known-frame
-enum-known-frame c = search needs
-
-refused-requires : tie.Need-refused-requires
-refused-requires c κs = search needs
-
-enum-known-frame-2 : tie.Need-enum-known-frame-2
-enum-known-frame-2 c = search needs
-
-duration-of-requires : tie.Need-duration-of-requires
-duration-of-requires c κs = search needs
-
-lpc-weighting-requires : tie.Need-lpc-weighting-requires
-lpc-weighting-requires c κs = search needs
-
 row-encoded-requires : tie.Need-row-encoded-requires
 row-encoded-requires c κs =
     let frame = c .before .before .before .before in
@@ -87,9 +69,6 @@ returns c =
     in
     let said = c .refused .ensures .0 ∙ call .0 in
     (said, (c .refused .ensures .1 ∙ call .1, (call .2, (refused-needs-none _ (encodeSays (c .refused .result .answer)) why (c .refused .ensures .0), few _ (g .duration) (g .bandwidth) (g .nbits) (g .flag) (g .lines .now) said))))
-
-same-length : tie.Need-same-length
-same-length c = search needs
 
 returns-2 : tie.Need-returns-2
 returns-2 c =
@@ -133,13 +112,13 @@ pub encode-spec : {M : Type 1} → statement M
 encode-spec =
     tie.close
     (tie.spec
-    check-frame-requires
-    enum-known-frame
-    refused-requires
-    enum-known-frame-2
-    duration-of-requires
-    lpc-weighting-requires
+    (λ c κs. search needs)
+    (λ c. search needs)
+    (λ c κs. search needs)
+    (λ c. search needs)
+    (λ c κs. search needs)
+    (λ c κs. search needs)
     row-encoded-requires
     returns
-    same-length
+    (λ c. search needs)
     returns-2)

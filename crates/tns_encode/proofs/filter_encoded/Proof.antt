@@ -26,24 +26,6 @@ returns c =
     let xs = g .lines .now in
     rw (c .if1 .taken) (order-0 (g .q) (g .states) (inside (g .band) xs) .0, order-0-within (g .band) (g .q) (g .states) xs (start .pre .0 .order))
 
-mul-band-encoded : tie.Need-mul-band-encoded
-mul-band-encoded c = search needs
-
-sub-band-encoded : tie.Need-sub-band-encoded
-sub-band-encoded c = search needs
-
-part-band-encoded-start : tie.Need-part-band-encoded-start
-part-band-encoded-start c = search needs
-
-part-band-encoded-end : tie.Need-part-band-encoded-end
-part-band-encoded-end c = search needs
-
-band-encoded-requires : tie.Need-band-encoded-requires
-band-encoded-requires c κs = search needs
-
-same-length : tie.Need-same-length
-same-length c = search needs
-
 returns-2 : tie.Need-returns-2
 returns-2 c =
     let called = c .before .before .band-encoded in
@@ -62,10 +44,10 @@ filter-encoded-spec =
     tie.close
     (tie.spec
     returns
-    mul-band-encoded
-    sub-band-encoded
-    part-band-encoded-start
-    part-band-encoded-end
-    band-encoded-requires
-    same-length
+    (λ c. search needs)
+    (λ c. search needs)
+    (λ c. search needs)
+    (λ c. search needs)
+    (λ c κs. search needs)
+    (λ c. search needs)
     returns-2)

@@ -12,14 +12,10 @@ use Rattle.tns_encode.proofs.refused.Tie as tie
 empty : (a b : Quantized) → a ≡ noFilter → b ≡ noFilter → _≡_ {A = SideData} (record { weighting = 0; filters = 0; first = a; second = b }) noSide
 empty a b p q = rw (p, q)
 
-no-filter-requires : tie.Need-no-filter-requires
-no-filter-requires c κs = search needs
-
-no-filter-requires-2 : tie.Need-no-filter-requires-2
-no-filter-requires-2 c κs = search needs
-
 returns : tie.Need-returns
 returns c = (refl, empty (c .before .no-filter .result) (c .no-filter2 .result) (c .before .no-filter .ensures) (c .no-filter2 .ensures))
 
 pub refused-spec : {M : Type 1} → statement M
-refused-spec = tie.close (tie.spec no-filter-requires no-filter-requires-2 returns)
+refused-spec = tie.close (tie.spec (λ c κs. search needs)
+    (λ c κs. search needs)
+    returns)

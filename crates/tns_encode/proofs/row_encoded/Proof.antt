@@ -21,18 +21,12 @@ module _ (row : Row) (lines : List Float) (flag : Bool) (weighting : ℕ) (side 
   unfolding rowEncoded
   lines-are = rw e
 
-analyse-frame-requires : tie.Need-analyse-frame-requires
-analyse-frame-requires c κs = search needs
-
 two-encoded-requires : tie.Need-two-encoded-requires
 two-encoded-requires c κs =
     let found = c .before .before in
     let start = found .before .before .before in
     let g = start .args in
     (start .pre, subst Reported (sym (found .analyse-frame .ensures .0)) (side-reported (g .row) (g .lines .now) (g .flag) (g .weighting)))
-
-same-length : tie.Need-same-length
-same-length c = search needs
 
 returns : tie.Need-returns
 returns c =
@@ -45,4 +39,7 @@ returns c =
     )
 
 pub row-encoded-spec : {M : Type 1} → statement M
-row-encoded-spec = tie.close (tie.spec analyse-frame-requires two-encoded-requires same-length returns)
+row-encoded-spec = tie.close (tie.spec (λ c κs. search needs)
+    two-encoded-requires
+    (λ c. search needs)
+    returns)

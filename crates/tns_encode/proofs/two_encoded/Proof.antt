@@ -12,15 +12,6 @@ use Rattle.tns_encode.specs.Encoder.{filteredBy}
 use Rattle.tns_encode.proofs.two_encoded.Statement.{statement}
 use Rattle.tns_encode.proofs.two_encoded.Tie as tie
 
-filter-encoded-requires : tie.Need-filter-encoded-requires
-filter-encoded-requires c κs = search needs
-
-filter-encoded-requires-2 : tie.Need-filter-encoded-requires-2
-filter-encoded-requires-2 c κs = search needs
-
-same-length : tie.Need-same-length
-same-length c = search needs
-
 returns : tie.Need-returns
 unfolding twoEncoded filteredBy
 returns c =
@@ -37,4 +28,7 @@ returns c =
 
 pub two-encoded-spec : {M : Type 1} → statement M
 two-encoded-spec =
-    tie.close (tie.spec filter-encoded-requires filter-encoded-requires-2 same-length returns)
+    tie.close (tie.spec (λ c κs. search needs)
+    (λ c κs. search needs)
+    (λ c. search needs)
+    returns)

@@ -16,21 +16,6 @@ use Rattle.tns_frames.proofs.asked_band.Tie as tie
 none-of-refused : (why : Refusal) (filter : ℕ) → noBand ≡ askedIn (says why) filter
 none-of-refused why filter = by-refusal (λ v. noBand ≡ askedIn v filter) (λ n. refl) (λ n p f. refl) why
 
-check-frame-requires : tie.Need-check-frame-requires
-check-frame-requires c κs = search needs
-
-enum-known-frame : tie.Need-enum-known-frame
-enum-known-frame c = search needs
-
-band-of-requires : tie.Need-band-of-requires
-band-of-requires c κs = search needs
-
-enum-told : tie.Need-enum-told
-enum-told c = search needs
-
-none-requires : tie.Need-none-requires
-none-requires c κs = search needs
-
 returns : tie.Need-returns
 returns c =
     let found = c .before .before in
@@ -48,10 +33,10 @@ pub asked-band-spec : {M : Type 1} → statement M
 asked-band-spec =
     tie.close
     (tie.spec
-    check-frame-requires
-    enum-known-frame
-    band-of-requires
-    enum-told
-    none-requires
+    (λ c κs. search needs)
+    (λ c. search needs)
+    (λ c κs. search needs)
+    (λ c. search needs)
+    (λ c κs. search needs)
     returns
     returns-2)

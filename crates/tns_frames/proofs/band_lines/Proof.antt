@@ -20,9 +20,6 @@ fits c =
     subst (λ (b : Band). Fits b (length (g .lines .now))) (sym (c .asked-band .ensures))
     (asked-fits (g .duration) (g .bandwidth) (g .filter) (length (g .lines .now)))
 
-asked-band-requires : tie.Need-asked-band-requires
-asked-band-requires c κs = search needs
-
 mul-lines : tie.Need-mul-lines
 mul-lines c = omega (arith, fits c)
 
@@ -50,4 +47,9 @@ returns c =
 pub band-lines-spec : {M : Type 1} → statement M
 band-lines-spec =
     tie.close
-    (tie.spec asked-band-requires mul-lines sub-result part-lines-start part-lines-end returns)
+    (tie.spec (λ c κs. search needs)
+    mul-lines
+    sub-result
+    part-lines-start
+    part-lines-end
+    returns)

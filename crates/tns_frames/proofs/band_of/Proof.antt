@@ -13,17 +13,11 @@ third row zero h k = absurd (h refl)
 third row (suc zero) h k = absurd (k refl)
 third row (suc (suc filter)) h k = refl
 
-returns : tie.Need-returns
-returns c = search needs
-
-returns-2 : tie.Need-returns-2
-returns-2 c = search needs
-
-none-requires : tie.Need-none-requires
-none-requires c κs = search needs
-
 returns-3 : tie.Need-returns-3
 returns-3 c = c .none .ensures ∙ third (c .before .before .before .args .row) (c .before .before .before .args .filter) (c .before .before .if1 .left) (c .before .if2 .left)
 
 pub band-of-spec : {M : Type 1} → statement M
-band-of-spec = tie.close (tie.spec returns returns-2 none-requires returns-3)
+band-of-spec = tie.close (tie.spec (λ c. search needs)
+    (λ c. search needs)
+    (λ c κs. search needs)
+    returns-3)

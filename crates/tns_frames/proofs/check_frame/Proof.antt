@@ -45,18 +45,12 @@ returns-2 c =
     let g = c .before .before .args in
     bandwidth-fails (g .duration) (g .bandwidth) (g .lines) (c .before .if1 .left) (c .if2 .taken)
 
-frame-of-requires : tie.Need-frame-of-requires
-frame-of-requires c κs = search needs
-
 returns-3 : tie.Need-returns-3
 returns-3 c =
     let tests = c .before .before in
     let g = tests .before .before .args in
     c .frame-of .ensures
     ∙ length-left (g .duration) (g .bandwidth) (g .lines) (tests .before .if1 .left) (tests .if2 .left) Ten (ten (g .duration) (c .before .if3 .taken))
-
-frame-of-requires-2 : tie.Need-frame-of-requires-2
-frame-of-requires-2 c κs = search needs
 
 returns-4 : tie.Need-returns-4
 returns-4 c =
@@ -66,4 +60,9 @@ returns-4 c =
     ∙ length-left (g .duration) (g .bandwidth) (g .lines) (tests .before .if1 .left) (tests .if2 .left) SevenPointFive (seven-point-five (g .duration) (c .before .if3 .left))
 
 pub check-frame-spec : {M : Type 1} → statement M
-check-frame-spec = tie.close (tie.spec returns returns-2 frame-of-requires returns-3 frame-of-requires-2 returns-4)
+check-frame-spec = tie.close (tie.spec returns
+    returns-2
+    (λ c κs. search needs)
+    returns-3
+    (λ c κs. search needs)
+    returns-4)

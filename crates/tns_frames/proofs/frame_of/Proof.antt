@@ -28,19 +28,10 @@ stop-is : (c : tie.After-last-stop) →
     c .last-stop .result ≡ lastStop (rowOf (g .duration) (g .bandwidth))
 stop-is c = c .last-stop .ensures ∙ ap lastStop (c .before .row-of .ensures)
 
-row-of-requires : tie.Need-row-of-requires
-row-of-requires c κs = search needs
-
-last-stop-requires : tie.Need-last-stop-requires
-last-stop-requires c κs = search needs
-
 returns : tie.Need-returns
 returns c =
     let g = c .before .before .before .args in
     too-short (g .duration) (g .bandwidth) (g .lines) (omega (arith, stop-is (c .before), c .if1 .taken))
-
-longest-requires : tie.Need-longest-requires
-longest-requires c κs = search needs
 
 returns-2 : tie.Need-returns-2
 returns-2 c =
@@ -56,4 +47,9 @@ returns-3 c =
     ∙ fine (g .duration) (g .bandwidth) (g .lines) (omega (arith, stop-is (stopped .before), stopped .if1 .left)) (omega (arith, c .before .longest .ensures, c .if2 .left))
 
 pub frame-of-spec : {M : Type 1} → statement M
-frame-of-spec = tie.close (tie.spec row-of-requires last-stop-requires returns longest-requires returns-2 returns-3)
+frame-of-spec = tie.close (tie.spec (λ c κs. search needs)
+    (λ c κs. search needs)
+    returns
+    (λ c κs. search needs)
+    returns-2
+    returns-3)

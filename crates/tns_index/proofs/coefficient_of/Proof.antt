@@ -14,15 +14,12 @@ returns : tie.Need-returns
 unfolding coefficientOf
 returns c = sym (List·getD-eq-default coefficients plusZero {n = c .before .args .index} (omega arith))
 
-mul-result : tie.Need-mul-result
-mul-result c = search needs
-
-array-read-result : tie.Need-array-read-result
-array-read-result c = search needs
-
 returns-2 : tie.Need-returns-2
 unfolding coefficientOf
 returns-2 c = any-default coefficients nan plusZero (c .before .args .index) (omega arith)
 
 pub coefficient-of-spec : {M : Type 1} → statement M
-coefficient-of-spec = tie.close (tie.spec returns mul-result array-read-result returns-2)
+coefficient-of-spec = tie.close (tie.spec returns
+    (λ c. search needs)
+    (λ c. search needs)
+    returns-2)

@@ -41,9 +41,6 @@ not-positive c =
     let x = c .before .args .x in
     ⊎-elim (λ w. second-fails (le plusZero x) (le x one) (w .1 .left)) (λ w. first-fails (le plusZero x) (le x one) (w .left)) (c .if1 .came)
 
-not-above-requires : tie.Need-not-above-requires
-not-above-requires c κs = search needs
-
 add-result : tie.Need-add-result
 add-result c = omega (arith, c .not-above .ensures, at-most-all (c .before .before .before .args .x) thresholds)
 
@@ -51,9 +48,6 @@ returns : tie.Need-returns
 returns c =
     let x = c .before .before .before .args .x in
     ap (λ (n : ℕ). 8 + n) (c .not-above .ensures) ∙ positive x (both (le plusZero x) (le x one) (c .before .before .if1 .taken) (c .before .if2 .taken))
-
-not-above-requires-2 : tie.Need-not-above-requires-2
-not-above-requires-2 c κs = search needs
 
 sub-result : tie.Need-sub-result
 sub-result c = omega (arith, c .not-above2 .ensures, at-most-all (neg (c .before .before .before .before .args .x)) thresholds)
@@ -77,10 +71,10 @@ pub index-of-spec : {M : Type 1} → statement M
 index-of-spec =
     tie.close
     (tie.spec
-    not-above-requires
+    (λ c κs. search needs)
     add-result
     returns
-    not-above-requires-2
+    (λ c κs. search needs)
     sub-result
     returns-2
     returns-3

@@ -38,21 +38,6 @@ loop-holds : tie.Need-loop-holds Inv-loop μ-loop
 unfolding orderOf
 loop-holds c = (omega arith, refl)
 
-array-read-if1 : tie.Need-array-read-if1 Inv-loop μ-loop
-array-read-if1 c = omega arith
-
-cast-order : tie.Need-cast-order Inv-loop μ-loop
-cast-order c = omega arith
-
-add-order : tie.Need-add-order Inv-loop μ-loop
-add-order c = omega arith
-
-add-k : tie.Need-add-k Inv-loop μ-loop
-add-k c = omega arith
-
-loop-less : tie.Need-loop-less Inv-loop μ-loop
-loop-less c = omega arith
-
 loop-again : tie.Need-loop-again Inv-loop μ-loop
 loop-again c =
     let l = c .before .before .loop in
@@ -77,10 +62,10 @@ order-of-spec =
     Inv-loop
     μ-loop
     loop-holds
-    array-read-if1
-    cast-order
-    add-order
-    add-k
-    loop-less
+    (λ c. omega arith)
+    (λ c. omega arith)
+    (λ c. omega arith)
+    (λ c. omega arith)
+    (λ c. omega arith)
     loop-again
     returns)

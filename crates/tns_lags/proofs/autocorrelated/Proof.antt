@@ -16,24 +16,6 @@ of-parts : (b : Band) (lines x y z : List Float) → x ≡ lowest b lines → y 
 unfolding autocorrelation
 of-parts b lines x y z p q r = rw (p, q, r)
 
-part-of-requires : tie.Need-part-of-requires
-part-of-requires c κs = search needs
-
-part-of-requires-2 : tie.Need-part-of-requires-2
-part-of-requires-2 c κs = search needs
-
-part-of-requires-3 : tie.Need-part-of-requires-3
-part-of-requires-3 c κs = search needs
-
-least-requires : tie.Need-least-requires
-least-requires c κs = search needs
-
-least-requires-2 : tie.Need-least-requires-2
-least-requires-2 c κs = search needs
-
-short-lags-requires : tie.Need-short-lags-requires
-short-lags-requires c κs = search needs
-
 returns : tie.Need-returns
 returns c =
     let third = c .before .before .before .before in
@@ -42,9 +24,6 @@ returns c =
     let g = first .before .before .args in
     c .short-lags .ensures
     ∙ of-parts (g .band) (g .lines .now) _ _ _ (first .part-of .ensures) (second .part-of2 .ensures) (third .part-of3 .ensures)
-
-long-lags-requires : tie.Need-long-lags-requires
-long-lags-requires c κs = search needs
 
 returns-2 : tie.Need-returns-2
 returns-2 c =
@@ -59,12 +38,12 @@ pub autocorrelated-spec : {M : Type 1} → statement M
 autocorrelated-spec =
     tie.close
     (tie.spec
-    part-of-requires
-    part-of-requires-2
-    part-of-requires-3
-    least-requires
-    least-requires-2
-    short-lags-requires
+    (λ c κs. search needs)
+    (λ c κs. search needs)
+    (λ c κs. search needs)
+    (λ c κs. search needs)
+    (λ c κs. search needs)
+    (λ c κs. search needs)
     returns
-    long-lags-requires
+    (λ c κs. search needs)
     returns-2)

@@ -19,26 +19,8 @@ Inv-loop lines sums₀ n₀ n-end sums n = (length lines - 8 ≤ n) × (n ≤ n-
 abbrev μ-loop : tie.MeasureT-loop
 μ-loop lines sums₀ n₀ n-end sums n = n-end - n
 
-whole-sums-requires : tie.Need-whole-sums-requires Inv-loop μ-loop
-whole-sums-requires c κs = search needs
-
-sub-n : tie.Need-sub-n Inv-loop μ-loop
-sub-n c = omega arith
-
 loop-holds : tie.Need-loop-holds Inv-loop μ-loop
 loop-holds c = (omega arith, omega arith, refl, c .whole-sums .ensures)
-
-sub-line-added : tie.Need-sub-line-added Inv-loop μ-loop
-sub-line-added c = omega arith
-
-line-added-requires : tie.Need-line-added-requires Inv-loop μ-loop
-line-added-requires c κs = omega arith
-
-add-n : tie.Need-add-n Inv-loop μ-loop
-add-n c = omega arith
-
-loop-less : tie.Need-loop-less Inv-loop μ-loop
-loop-less c = omega arith
 
 loop-again : tie.Need-loop-again Inv-loop μ-loop
 loop-again c =
@@ -63,12 +45,12 @@ lag-sums-spec =
     (tie.spec
     Inv-loop
     μ-loop
-    whole-sums-requires
-    sub-n
+    (λ c κs. search needs)
+    (λ c. omega arith)
     loop-holds
-    sub-line-added
-    line-added-requires
-    add-n
-    loop-less
+    (λ c. omega arith)
+    (λ c κs. omega arith)
+    (λ c. omega arith)
+    (λ c. omega arith)
     loop-again
     returns)

@@ -23,39 +23,6 @@ abbrev μ-loop : tie.MeasureT-loop
 loop-holds : tie.Need-loop-holds Inv-loop μ-loop
 loop-holds c = (omega arith, search needs, λ j h. added-none (c .args .sums) (c .args .lines .now) (c .args .n) j)
 
-mul-added : tie.Need-mul-added Inv-loop μ-loop
-mul-added c = omega arith
-
-array-read-added : tie.Need-array-read-added Inv-loop μ-loop
-array-read-added c = omega arith
-
-mul-added-2 : tie.Need-mul-added-2 Inv-loop μ-loop
-mul-added-2 c = omega arith
-
-shared-slice-read-added : tie.Need-shared-slice-read-added Inv-loop μ-loop
-shared-slice-read-added c = omega arith
-
-add-added : tie.Need-add-added Inv-loop μ-loop
-add-added c = omega arith
-
-mul-added-3 : tie.Need-mul-added-3 Inv-loop μ-loop
-mul-added-3 c = omega arith
-
-shared-slice-read-added-2 : tie.Need-shared-slice-read-added-2 Inv-loop μ-loop
-shared-slice-read-added-2 c = omega arith
-
-mul-added-4 : tie.Need-mul-added-4 Inv-loop μ-loop
-mul-added-4 c = omega arith
-
-array-write-added : tie.Need-array-write-added Inv-loop μ-loop
-array-write-added c = omega arith
-
-add-k : tie.Need-add-k Inv-loop μ-loop
-add-k c = omega arith
-
-loop-less : tie.Need-loop-less Inv-loop μ-loop
-loop-less c = omega arith
-
 loop-again : tie.Need-loop-again Inv-loop μ-loop
 loop-again c =
     let l = c .before .before .before .loop in
@@ -85,16 +52,16 @@ line-added-spec =
     Inv-loop
     μ-loop
     loop-holds
-    mul-added
-    array-read-added
-    mul-added-2
-    shared-slice-read-added
-    add-added
-    mul-added-3
-    shared-slice-read-added-2
-    mul-added-4
-    array-write-added
-    add-k
-    loop-less
+    (λ c. omega arith)
+    (λ c. omega arith)
+    (λ c. omega arith)
+    (λ c. omega arith)
+    (λ c. omega arith)
+    (λ c. omega arith)
+    (λ c. omega arith)
+    (λ c. omega arith)
+    (λ c. omega arith)
+    (λ c. omega arith)
+    (λ c. omega arith)
     loop-again
     returns)

@@ -6,18 +6,6 @@ use Rattle.tns_lags.proofs.Lags.{lags-are}
 use Rattle.tns_lags.proofs.long_lags.Statement.{statement}
 use Rattle.tns_lags.proofs.long_lags.Tie as tie
 
-lag-sums-requires : tie.Need-lag-sums-requires
-lag-sums-requires c κs = search needs
-
-lag-sums-requires-2 : tie.Need-lag-sums-requires-2
-lag-sums-requires-2 c κs = search needs
-
-lag-sums-requires-3 : tie.Need-lag-sums-requires-3
-lag-sums-requires-3 c κs = search needs
-
-lags-of-requires : tie.Need-lags-of-requires
-lags-of-requires c κs = search needs
-
 returns : tie.Need-returns
 returns c =
     let third = c .before in
@@ -32,8 +20,8 @@ pub long-lags-spec : {M : Type 1} → statement M
 long-lags-spec =
     tie.close
     (tie.spec
-    lag-sums-requires
-    lag-sums-requires-2
-    lag-sums-requires-3
-    lags-of-requires
+    (λ c κs. search needs)
+    (λ c κs. search needs)
+    (λ c κs. search needs)
+    (λ c κs. search needs)
     returns)

@@ -25,27 +25,6 @@ abbrev μ-loop : tie.MeasureT-loop
 loop-holds : tie.Need-loop-holds Inv-loop μ-loop
 loop-holds c = (omega arith, refl, λ j h. absurd (omega arith))
 
-plain-lag-requires : tie.Need-plain-lag-requires Inv-loop μ-loop
-plain-lag-requires c κs = omega arith
-
-mul-lags : tie.Need-mul-lags Inv-loop μ-loop
-mul-lags c = omega arith
-
-array-read-lags : tie.Need-array-read-lags Inv-loop μ-loop
-array-read-lags c = omega arith
-
-mul-lags-2 : tie.Need-mul-lags-2 Inv-loop μ-loop
-mul-lags-2 c = omega arith
-
-array-write-lags : tie.Need-array-write-lags Inv-loop μ-loop
-array-write-lags c = omega arith
-
-add-k : tie.Need-add-k Inv-loop μ-loop
-add-k c = omega arith
-
-loop-less : tie.Need-loop-less Inv-loop μ-loop
-loop-less c = omega arith
-
 loop-again : tie.Need-loop-again Inv-loop μ-loop
 loop-again c =
     let l = c .before .before .loop in
@@ -69,12 +48,12 @@ normalized-spec =
     Inv-loop
     μ-loop
     loop-holds
-    plain-lag-requires
-    mul-lags
-    array-read-lags
-    mul-lags-2
-    array-write-lags
-    add-k
-    loop-less
+    (λ c κs. omega arith)
+    (λ c. omega arith)
+    (λ c. omega arith)
+    (λ c. omega arith)
+    (λ c. omega arith)
+    (λ c. omega arith)
+    (λ c. omega arith)
     loop-again
     returns)

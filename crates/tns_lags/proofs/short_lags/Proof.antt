@@ -6,18 +6,6 @@ use Rattle.tns_lags.proofs.Lags.{lags-are}
 use Rattle.tns_lags.proofs.short_lags.Statement.{statement}
 use Rattle.tns_lags.proofs.short_lags.Tie as tie
 
-short-sums-requires : tie.Need-short-sums-requires
-short-sums-requires c κs = search needs
-
-short-sums-requires-2 : tie.Need-short-sums-requires-2
-short-sums-requires-2 c κs = search needs
-
-short-sums-requires-3 : tie.Need-short-sums-requires-3
-short-sums-requires-3 c κs = search needs
-
-lags-of-requires : tie.Need-lags-of-requires
-lags-of-requires c κs = search needs
-
 returns : tie.Need-returns
 returns c =
     let third = c .before in
@@ -32,8 +20,8 @@ pub short-lags-spec : {M : Type 1} → statement M
 short-lags-spec =
     tie.close
     (tie.spec
-    short-sums-requires
-    short-sums-requires-2
-    short-sums-requires-3
-    lags-of-requires
+    (λ c κs. search needs)
+    (λ c κs. search needs)
+    (λ c κs. search needs)
+    (λ c κs. search needs)
     returns)

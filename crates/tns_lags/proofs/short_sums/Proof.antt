@@ -19,21 +19,6 @@ abbrev μ-loop : tie.MeasureT-loop
 loop-holds : tie.Need-loop-holds Inv-loop μ-loop
 loop-holds c = (omega arith, refl, λ j h. absurd (omega arith))
 
-lag-sum-requires : tie.Need-lag-sum-requires Inv-loop μ-loop
-lag-sum-requires c κs = omega arith
-
-mul-sums : tie.Need-mul-sums Inv-loop μ-loop
-mul-sums c = omega arith
-
-array-write-sums : tie.Need-array-write-sums Inv-loop μ-loop
-array-write-sums c = omega arith
-
-add-k : tie.Need-add-k Inv-loop μ-loop
-add-k c = omega arith
-
-loop-less : tie.Need-loop-less Inv-loop μ-loop
-loop-less c = omega arith
-
 loop-again : tie.Need-loop-again Inv-loop μ-loop
 loop-again c =
     let l = c .before .before .loop in
@@ -56,10 +41,10 @@ short-sums-spec =
     Inv-loop
     μ-loop
     loop-holds
-    lag-sum-requires
-    mul-sums
-    array-write-sums
-    add-k
-    loop-less
+    (λ c κs. omega arith)
+    (λ c. omega arith)
+    (λ c. omega arith)
+    (λ c. omega arith)
+    (λ c. omega arith)
     loop-again
     returns)

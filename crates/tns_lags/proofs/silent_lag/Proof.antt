@@ -11,4 +11,5 @@ returns-2 : tie.Need-returns-2
 returns-2 c = rw (ne-eqb (c .before .args .k) 0 (c .if1 .left))
 
 pub silent-lag-spec : {M : Type 1} → statement M
-silent-lag-spec = tie.close (tie.spec returns returns-2)
+silent-lag-spec = tie.close (tie.spec returns
+    returns-2)

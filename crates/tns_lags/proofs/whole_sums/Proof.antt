@@ -18,21 +18,9 @@ Inv-loop lines sums₀ n₀ n-end sums n = (n ≤ n-end) × (n-end ≡ length li
 abbrev μ-loop : tie.MeasureT-loop
 μ-loop lines sums₀ n₀ n-end sums n = n-end - n
 
-sub-n-end : tie.Need-sub-n-end Inv-loop μ-loop
-sub-n-end c = omega arith
-
 loop-holds : tie.Need-loop-holds Inv-loop μ-loop
 unfolding tab
 loop-holds c = (omega arith, refl, sums-none (c .before .args .lines .now) _ refl)
-
-line-added-requires : tie.Need-line-added-requires Inv-loop μ-loop
-line-added-requires c κs = omega arith
-
-add-n : tie.Need-add-n Inv-loop μ-loop
-add-n c = omega arith
-
-loop-less : tie.Need-loop-less Inv-loop μ-loop
-loop-less c = omega arith
 
 loop-again : tie.Need-loop-again Inv-loop μ-loop
 loop-again c =
@@ -56,10 +44,10 @@ whole-sums-spec =
     (tie.spec
     Inv-loop
     μ-loop
-    sub-n-end
+    (λ c. omega arith)
     loop-holds
-    line-added-requires
-    add-n
-    loop-less
+    (λ c κs. omega arith)
+    (λ c. omega arith)
+    (λ c. omega arith)
     loop-again
     returns)

@@ -35,12 +35,6 @@ loop-holds : tie.Need-loop-holds Inv-loop μ-loop
 unfolding power
 loop-holds c = (omega arith, refl)
 
-add-counter : tie.Need-add-counter Inv-loop μ-loop
-add-counter c = omega arith
-
-loop-less : tie.Need-loop-less Inv-loop μ-loop
-loop-less c = omega arith
-
 loop-again : tie.Need-loop-again Inv-loop μ-loop
 loop-again c =
     let l = c .before .before .loop in
@@ -56,4 +50,10 @@ returns c =
 
 pub power-of-spec : {M : Type 1} → statement M
 power-of-spec =
-    tie.close (tie.spec Inv-loop μ-loop loop-holds add-counter loop-less loop-again returns)
+    tie.close (tie.spec Inv-loop
+    μ-loop
+    loop-holds
+    (λ c. omega arith)
+    (λ c. omega arith)
+    loop-again
+    returns)

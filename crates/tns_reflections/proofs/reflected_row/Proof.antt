@@ -46,30 +46,6 @@ loop-holds : tie.Need-loop-holds Inv-loop μ-loop
 unfolding rowAt
 loop-holds c = (omega arith, refl, refl, λ j h g. absurd (omega arith))
 
-mul-rc : tie.Need-mul-rc Inv-loop μ-loop
-mul-rc c = omega arith
-
-array-read-rc : tie.Need-array-read-rc Inv-loop μ-loop
-array-read-rc c = omega arith
-
-sub-rc : tie.Need-sub-rc Inv-loop μ-loop
-sub-rc c = omega arith
-
-mul-rc-2 : tie.Need-mul-rc-2 Inv-loop μ-loop
-mul-rc-2 c = omega arith
-
-array-write-rc : tie.Need-array-write-rc Inv-loop μ-loop
-array-write-rc c = omega arith
-
-row-below-requires : tie.Need-row-below-requires Inv-loop μ-loop
-row-below-requires c κs = omega arith
-
-sub-k : tie.Need-sub-k Inv-loop μ-loop
-sub-k c = omega arith
-
-loop-less : tie.Need-loop-less Inv-loop μ-loop
-loop-less c = omega arith
-
 loop-again : tie.Need-loop-again Inv-loop μ-loop
 loop-again c =
     let l = c .before .before .loop in
@@ -94,13 +70,13 @@ reflected-row-spec =
     Inv-loop
     μ-loop
     loop-holds
-    mul-rc
-    array-read-rc
-    sub-rc
-    mul-rc-2
-    array-write-rc
-    row-below-requires
-    sub-k
-    loop-less
+    (λ c. omega arith)
+    (λ c. omega arith)
+    (λ c. omega arith)
+    (λ c. omega arith)
+    (λ c. omega arith)
+    (λ c κs. omega arith)
+    (λ c. omega arith)
+    (λ c. omega arith)
     loop-again
     returns)

@@ -18,12 +18,6 @@ Inv-loop k row rc e below₀ n₀ below n = (0 < n) × (n ≤ k) × (length belo
 abbrev μ-loop : tie.MeasureT-loop
 μ-loop k row rc e below₀ n₀ below n = k - n
 
-mul-rc : tie.Need-mul-rc Inv-loop μ-loop
-mul-rc c = omega arith
-
-array-read-rc : tie.Need-array-read-rc Inv-loop μ-loop
-array-read-rc c = omega arith
-
 loop-holds : tie.Need-loop-holds Inv-loop μ-loop
 loop-holds c = (
   omega arith,
@@ -31,33 +25,6 @@ loop-holds c = (
   refl,
   below-start (c .args .t1) (c .args .k) (replicate 9 f0) refl,
 )
-
-mul-below : tie.Need-mul-below Inv-loop μ-loop
-mul-below c = omega arith
-
-array-read-below : tie.Need-array-read-below Inv-loop μ-loop
-array-read-below c = omega arith
-
-sub-below : tie.Need-sub-below Inv-loop μ-loop
-sub-below c = omega arith
-
-mul-below-2 : tie.Need-mul-below-2 Inv-loop μ-loop
-mul-below-2 c = omega arith
-
-array-read-below-2 : tie.Need-array-read-below-2 Inv-loop μ-loop
-array-read-below-2 c = omega arith
-
-mul-below-3 : tie.Need-mul-below-3 Inv-loop μ-loop
-mul-below-3 c = omega arith
-
-array-write-below : tie.Need-array-write-below Inv-loop μ-loop
-array-write-below c = omega arith
-
-add-n : tie.Need-add-n Inv-loop μ-loop
-add-n c = omega arith
-
-loop-less : tie.Need-loop-less Inv-loop μ-loop
-loop-less c = omega arith
 
 loop-again : tie.Need-loop-again Inv-loop μ-loop
 loop-again c =
@@ -88,17 +55,17 @@ row-below-spec =
     (tie.spec
     Inv-loop
     μ-loop
-    mul-rc
-    array-read-rc
+    (λ c. omega arith)
+    (λ c. omega arith)
     loop-holds
-    mul-below
-    array-read-below
-    sub-below
-    mul-below-2
-    array-read-below-2
-    mul-below-3
-    array-write-below
-    add-n
-    loop-less
+    (λ c. omega arith)
+    (λ c. omega arith)
+    (λ c. omega arith)
+    (λ c. omega arith)
+    (λ c. omega arith)
+    (λ c. omega arith)
+    (λ c. omega arith)
+    (λ c. omega arith)
+    (λ c. omega arith)
     loop-again
     returns)

@@ -62,12 +62,6 @@ returns-3 c =
     let g = c .before .before .before .before .before .args in
     count-fails (g .filters) (g .orders .now) (g .indices .now) noFault (c .before .before .if1 .left) (c .before .if2 .left) (c .if3 .taken)
 
-lowest-over-requires : tie.Need-lowest-over-requires
-lowest-over-requires c κs = search needs
-
-enum-known-order : tie.Need-enum-known-order
-enum-known-order c = search needs
-
 returns-4 : tie.Need-returns-4
 returns-4 c =
     let called = c .before .before .before in
@@ -75,15 +69,6 @@ returns-4 c =
     let g = e .before .before .before .before .before .args in
     order-fails (g .filters) (g .orders .now) (g .indices .now) noFault (e .before .before .if1 .left) (e .before .if2 .left) (e .if3 .left) _ _
     (sym (called .lowest-over .ensures) ∙ c .before .order .given .1)
-
-enum-told : tie.Need-enum-told
-enum-told c = search needs
-
-lowest-over-requires-2 : tie.Need-lowest-over-requires-2
-lowest-over-requires-2 c κs = search needs
-
-enum-known-index : tie.Need-enum-known-index
-enum-known-index c = search needs
 
 returns-5 : tie.Need-returns-5
 returns-5 c =
@@ -93,9 +78,6 @@ returns-5 c =
     let g = e .before .before .before .before .before .args in
     index-fails (g .filters) (g .orders .now) (g .indices .now) noFault (e .before .before .if1 .left) (e .before .if2 .left) (e .if3 .left)
     (sym (called .lowest-over .ensures) ∙ called2 .before .enum-told .given .1) _ _ (sym (called2 .lowest-over2 .ensures) ∙ c .before .index .given .1)
-
-enum-told-2 : tie.Need-enum-told-2
-enum-told-2 c = search needs
 
 returns-6 : tie.Need-returns-6
 returns-6 c =
@@ -113,12 +95,12 @@ check-side-spec =
     returns
     returns-2
     returns-3
-    lowest-over-requires
-    enum-known-order
+    (λ c κs. search needs)
+    (λ c. search needs)
     returns-4
-    enum-told
-    lowest-over-requires-2
-    enum-known-index
+    (λ c. search needs)
+    (λ c κs. search needs)
+    (λ c. search needs)
     returns-5
-    enum-told-2
+    (λ c. search needs)
     returns-6)

@@ -24,24 +24,12 @@ loop-holds c =
     let g = c .args in
     (not-at-end (g .limit) (g .numbers .now) 0 (c .pre), refl, c .pre)
 
-shared-slice-read-if1 : tie.Need-shared-slice-read-if1 Inv-loop μ-loop
-shared-slice-read-if1 c = omega arith
-
-add-place : tie.Need-add-place Inv-loop μ-loop
-add-place c = omega arith
-
-loop-less : tie.Need-loop-less Inv-loop μ-loop
-loop-less c = omega arith
-
 loop-again : tie.Need-loop-again Inv-loop μ-loop
 loop-again c =
     let l = c .before .before .loop in
     let g = c .before .before .before .args in
     let next = l .inv .1 ∙ further (g .limit) (g .numbers .now) (l .place) (l .inv .0) (c .if1 .taken) in
     (not-at-end (g .limit) (g .numbers .now) (l .place + 1) (sym (ap isNowhere next) ∙ l .inv .2), next, l .inv .2)
-
-shared-slice-read-found : tie.Need-shared-slice-read-found Inv-loop μ-loop
-shared-slice-read-found c = omega arith
 
 returns : tie.Need-returns Inv-loop μ-loop
 returns c =
@@ -56,9 +44,9 @@ first-over-spec =
     Inv-loop
     μ-loop
     loop-holds
-    shared-slice-read-if1
-    add-place
-    loop-less
+    (λ c. omega arith)
+    (λ c. omega arith)
+    (λ c. omega arith)
     loop-again
-    shared-slice-read-found
+    (λ c. omega arith)
     returns)

@@ -13,17 +13,14 @@ nowhere : (o : Over) → isNowhere o ≡ true → Nowhere ≡ o
 nowhere Nowhere e = refl
 nowhere (At place found) e = absurd (subst T (sym e) tt)
 
-none-over-requires : tie.Need-none-over-requires
-none-over-requires c κs = search needs
-
 returns : tie.Need-returns
 returns c = nowhere _ (sym (c .before .none-over .ensures) ∙ c .if1 .taken)
 
 first-over-requires : tie.Need-first-over-requires
 first-over-requires c κs = sym (c .before .none-over .ensures) ∙ c .if1 .left
 
-returns-2 : tie.Need-returns-2
-returns-2 c = search needs
-
 pub lowest-over-spec : {M : Type 1} → statement M
-lowest-over-spec = tie.close (tie.spec none-over-requires returns first-over-requires returns-2)
+lowest-over-spec = tie.close (tie.spec (λ c κs. search needs)
+    returns
+    first-over-requires
+    (λ c. search needs))

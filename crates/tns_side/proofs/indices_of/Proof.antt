@@ -22,24 +22,6 @@ abbrev μ-loop : tie.MeasureT-loop
 loop-holds : tie.Need-loop-holds Inv-loop μ-loop
 loop-holds c = (omega arith, refl, refl)
 
-mul-index-of : tie.Need-mul-index-of Inv-loop μ-loop
-mul-index-of c = omega arith
-
-array-read-index-of : tie.Need-array-read-index-of Inv-loop μ-loop
-array-read-index-of c = omega arith
-
-index-of-requires : tie.Need-index-of-requires Inv-loop μ-loop
-index-of-requires c κs = search needs
-
-array-write-indices : tie.Need-array-write-indices Inv-loop μ-loop
-array-write-indices c = omega arith
-
-add-k : tie.Need-add-k Inv-loop μ-loop
-add-k c = omega arith
-
-loop-less : tie.Need-loop-less Inv-loop μ-loop
-loop-less c = omega arith
-
 loop-again : tie.Need-loop-again Inv-loop μ-loop
 loop-again c =
     let l = c .before .before .loop in
@@ -66,11 +48,11 @@ indices-of-spec =
     Inv-loop
     μ-loop
     loop-holds
-    mul-index-of
-    array-read-index-of
-    index-of-requires
-    array-write-indices
-    add-k
-    loop-less
+    (λ c. omega arith)
+    (λ c. omega arith)
+    (λ c κs. search needs)
+    (λ c. omega arith)
+    (λ c. omega arith)
+    (λ c. omega arith)
     loop-again
     returns)

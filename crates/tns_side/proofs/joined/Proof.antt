@@ -20,39 +20,6 @@ abbrev μ-loop : tie.MeasureT-loop
 loop-holds : tie.Need-loop-holds Inv-loop μ-loop
 loop-holds c = (omega arith, refl, λ j h. absurd (omega arith), λ j h. absurd (omega arith))
 
-mul-both : tie.Need-mul-both Inv-loop μ-loop
-mul-both c = omega arith
-
-array-read-both : tie.Need-array-read-both Inv-loop μ-loop
-array-read-both c = omega arith
-
-mul-both-2 : tie.Need-mul-both-2 Inv-loop μ-loop
-mul-both-2 c = omega arith
-
-array-write-both : tie.Need-array-write-both Inv-loop μ-loop
-array-write-both c = omega arith
-
-mul-both-3 : tie.Need-mul-both-3 Inv-loop μ-loop
-mul-both-3 c = omega arith
-
-array-read-both-2 : tie.Need-array-read-both-2 Inv-loop μ-loop
-array-read-both-2 c = omega arith
-
-add-both : tie.Need-add-both Inv-loop μ-loop
-add-both c = omega arith
-
-mul-both-4 : tie.Need-mul-both-4 Inv-loop μ-loop
-mul-both-4 c = omega arith
-
-array-write-both-2 : tie.Need-array-write-both-2 Inv-loop μ-loop
-array-write-both-2 c = omega arith
-
-add-k : tie.Need-add-k Inv-loop μ-loop
-add-k c = omega arith
-
-loop-less : tie.Need-loop-less Inv-loop μ-loop
-loop-less c = omega arith
-
 -- the two stores of a turn
 module _ (out xs ys : List Float) (k : ℕ) (low : k < 8) (sixteen : length out ≡ 16) (h : Holds nan out 0 xs k) (g : Holds nan out 8 ys k) where
   abbrev once : List Float
@@ -96,16 +63,16 @@ joined-spec =
     Inv-loop
     μ-loop
     loop-holds
-    mul-both
-    array-read-both
-    mul-both-2
-    array-write-both
-    mul-both-3
-    array-read-both-2
-    add-both
-    mul-both-4
-    array-write-both-2
-    add-k
-    loop-less
+    (λ c. omega arith)
+    (λ c. omega arith)
+    (λ c. omega arith)
+    (λ c. omega arith)
+    (λ c. omega arith)
+    (λ c. omega arith)
+    (λ c. omega arith)
+    (λ c. omega arith)
+    (λ c. omega arith)
+    (λ c. omega arith)
+    (λ c. omega arith)
     loop-again
     returns)

@@ -16,15 +16,6 @@ parts : (r : List Float) (order : ℕ) (is : List ℕ) (cs : List Float) → is 
 unfolding quantizedOf
 parts r order is cs ei ec eo = rw (eo, ec, ei)
 
-indices-of-requires : tie.Need-indices-of-requires
-indices-of-requires c κs = search needs
-
-table-coefficients-requires : tie.Need-table-coefficients-requires
-table-coefficients-requires c κs = search needs
-
-order-of-requires : tie.Need-order-of-requires
-order-of-requires c κs = search needs
-
 returns : tie.Need-returns
 returns c =
     parts (c .before .before .before .args .reflections) (c .order-of .result) (c .before .before .indices-of .result) (c .before .table-coefficients .result)
@@ -32,4 +23,7 @@ returns c =
 
 pub quantize-all-spec : {M : Type 1} → statement M
 quantize-all-spec =
-    tie.close (tie.spec indices-of-requires table-coefficients-requires order-of-requires returns)
+    tie.close (tie.spec (λ c κs. search needs)
+    (λ c κs. search needs)
+    (λ c κs. search needs)
+    returns)

@@ -23,59 +23,11 @@ Inv-loop first second bytes₀ k₀ bytes k = (k ≤ 8) × (length bytes ≡ 20)
 abbrev μ-loop : tie.MeasureT-loop
 μ-loop first second bytes₀ k₀ bytes k = 8 - k
 
-array-read-bytes : tie.Need-array-read-bytes Inv-loop μ-loop
-array-read-bytes c = search needs
-
-array-write-bytes : tie.Need-array-write-bytes Inv-loop μ-loop
-array-write-bytes c = search needs
-
-array-read-bytes-2 : tie.Need-array-read-bytes-2 Inv-loop μ-loop
-array-read-bytes-2 c = search needs
-
-array-write-bytes-2 : tie.Need-array-write-bytes-2 Inv-loop μ-loop
-array-write-bytes-2 c = search needs
-
-array-read-bytes-3 : tie.Need-array-read-bytes-3 Inv-loop μ-loop
-array-read-bytes-3 c = search needs
-
-array-write-bytes-3 : tie.Need-array-write-bytes-3 Inv-loop μ-loop
-array-write-bytes-3 c = search needs
-
-array-read-bytes-4 : tie.Need-array-read-bytes-4 Inv-loop μ-loop
-array-read-bytes-4 c = search needs
-
-array-write-bytes-4 : tie.Need-array-write-bytes-4 Inv-loop μ-loop
-array-write-bytes-4 c = search needs
-
 loop-holds : tie.Need-loop-holds Inv-loop μ-loop
 loop-holds c = (omega arith, refl, λ j h. rw (from-none j), λ j h. absurd (omega arith), λ j h. absurd (omega arith))
   where
     from-none : (j : ℕ) → 0 + j ≡ j
     from-none j = omega arith
-
-array-read-bytes-5 : tie.Need-array-read-bytes-5 Inv-loop μ-loop
-array-read-bytes-5 c = omega arith
-
-add-bytes : tie.Need-add-bytes Inv-loop μ-loop
-add-bytes c = omega arith
-
-array-write-bytes-5 : tie.Need-array-write-bytes-5 Inv-loop μ-loop
-array-write-bytes-5 c = omega arith
-
-array-read-bytes-6 : tie.Need-array-read-bytes-6 Inv-loop μ-loop
-array-read-bytes-6 c = omega arith
-
-add-bytes-2 : tie.Need-add-bytes-2 Inv-loop μ-loop
-add-bytes-2 c = omega arith
-
-array-write-bytes-6 : tie.Need-array-write-bytes-6 Inv-loop μ-loop
-array-write-bytes-6 c = omega arith
-
-add-k : tie.Need-add-k Inv-loop μ-loop
-add-k c = omega arith
-
-loop-less : tie.Need-loop-less Inv-loop μ-loop
-loop-less c = omega arith
 
 -- the two stores of a turn
 module _ (out head xs ys : List ℕ) (k : ℕ) (low : k < 8) (twenty : length out ≡ 20) (f : Holds 0 out 0 head 4) (h : Holds 0 out 4 xs k) (g : Holds 0 out 12 ys k) where
@@ -141,22 +93,22 @@ record-with-spec =
     (tie.spec
     Inv-loop
     μ-loop
-    array-read-bytes
-    array-write-bytes
-    array-read-bytes-2
-    array-write-bytes-2
-    array-read-bytes-3
-    array-write-bytes-3
-    array-read-bytes-4
-    array-write-bytes-4
+    (λ c. search needs)
+    (λ c. search needs)
+    (λ c. search needs)
+    (λ c. search needs)
+    (λ c. search needs)
+    (λ c. search needs)
+    (λ c. search needs)
+    (λ c. search needs)
     loop-holds
-    array-read-bytes-5
-    add-bytes
-    array-write-bytes-5
-    array-read-bytes-6
-    add-bytes-2
-    array-write-bytes-6
-    add-k
-    loop-less
+    (λ c. omega arith)
+    (λ c. omega arith)
+    (λ c. omega arith)
+    (λ c. omega arith)
+    (λ c. omega arith)
+    (λ c. omega arith)
+    (λ c. omega arith)
+    (λ c. omega arith)
     loop-again
     returns)

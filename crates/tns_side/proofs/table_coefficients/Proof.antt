@@ -22,24 +22,6 @@ abbrev μ-loop : tie.MeasureT-loop
 loop-holds : tie.Need-loop-holds Inv-loop μ-loop
 loop-holds c = (omega arith, refl, refl)
 
-array-read-coefficient-of : tie.Need-array-read-coefficient-of Inv-loop μ-loop
-array-read-coefficient-of c = omega arith
-
-coefficient-of-requires : tie.Need-coefficient-of-requires Inv-loop μ-loop
-coefficient-of-requires c κs = search needs
-
-mul-coefficients : tie.Need-mul-coefficients Inv-loop μ-loop
-mul-coefficients c = omega arith
-
-array-write-coefficients : tie.Need-array-write-coefficients Inv-loop μ-loop
-array-write-coefficients c = omega arith
-
-add-k : tie.Need-add-k Inv-loop μ-loop
-add-k c = omega arith
-
-loop-less : tie.Need-loop-less Inv-loop μ-loop
-loop-less c = omega arith
-
 loop-again : tie.Need-loop-again Inv-loop μ-loop
 loop-again c =
     let l = c .before .before .loop in
@@ -66,11 +48,11 @@ table-coefficients-spec =
     Inv-loop
     μ-loop
     loop-holds
-    array-read-coefficient-of
-    coefficient-of-requires
-    mul-coefficients
-    array-write-coefficients
-    add-k
-    loop-less
+    (λ c. omega arith)
+    (λ c κs. search needs)
+    (λ c. omega arith)
+    (λ c. omega arith)
+    (λ c. omega arith)
+    (λ c. omega arith)
     loop-again
     returns)

@@ -17,29 +17,14 @@ returns-2 c =
     let g = c .before .before .args in
     sym (outside-columns 17 (g .table .now) (c .before .before .pre .1) (g .place) (g .index) (omega arith))
 
-mul-result : tie.Need-mul-result
-mul-result c = search needs
-
-mul-result-2 : tie.Need-mul-result-2
-mul-result-2 c = search needs
-
-index-1-result : tie.Need-index-1-result
-index-1-result c = search needs
-
-index-2-result : tie.Need-index-2-result
-index-2-result c = search needs
-
-returns-3 : tie.Need-returns-3
-returns-3 c = search needs
-
 pub of-coefficient-spec : {M : Type 1} → statement M
 of-coefficient-spec =
     tie.close
     (tie.spec
     returns
     returns-2
-    mul-result
-    mul-result-2
-    index-1-result
-    index-2-result
-    returns-3)
+    (λ c. search needs)
+    (λ c. search needs)
+    (λ c. search needs)
+    (λ c. search needs)
+    (λ c. search needs))

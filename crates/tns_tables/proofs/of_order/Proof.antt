@@ -42,21 +42,6 @@ returns-3 c =
     let g = c .before .before .before .args in
     no-column (g .table .now) (g .weighting) (g .order) (c .before .before .before .pre .1) (omega arith)
 
-sub-column : tie.Need-sub-column
-sub-column c = search needs
-
-mul-result : tie.Need-mul-result
-mul-result c = search needs
-
-mul-result-2 : tie.Need-mul-result-2
-mul-result-2 c = search needs
-
-index-1-result : tie.Need-index-1-result
-index-1-result c = search needs
-
-index-2-result : tie.Need-index-2-result
-index-2-result c = search needs
-
 returns-4 : tie.Need-returns-4
 returns-4 c =
     let g = c .before .before .before .before .args in
@@ -69,9 +54,9 @@ of-order-spec =
     returns
     returns-2
     returns-3
-    sub-column
-    mul-result
-    mul-result-2
-    index-1-result
-    index-2-result
+    (λ c. search needs)
+    (λ c. search needs)
+    (λ c. search needs)
+    (λ c. search needs)
+    (λ c. search needs)
     returns-4)

@@ -35,32 +35,8 @@ Inv-loop table order indices sum₀ count place₀ sum place =
 abbrev μ-loop : tie.MeasureT-loop
 μ-loop table order indices sum₀ count place₀ sum place = count - place
 
-least-requires : tie.Need-least-requires Inv-loop μ-loop
-least-requires c κs = search needs
-
 loop-holds : tie.Need-loop-holds Inv-loop μ-loop
 loop-holds c = (omega arith, omega arith, omega arith)
-
-cast-of-coefficient : tie.Need-cast-of-coefficient Inv-loop μ-loop
-cast-of-coefficient c = omega arith
-
-shared-slice-read-of-coefficient : tie.Need-shared-slice-read-of-coefficient Inv-loop μ-loop
-shared-slice-read-of-coefficient c = omega arith
-
-of-coefficient-requires : tie.Need-of-coefficient-requires Inv-loop μ-loop
-of-coefficient-requires c κs = search needs
-
-widened-requires : tie.Need-widened-requires Inv-loop μ-loop
-widened-requires c κs = search needs
-
-add-sum : tie.Need-add-sum Inv-loop μ-loop
-add-sum c = omega arith
-
-add-place : tie.Need-add-place Inv-loop μ-loop
-add-place c = omega arith
-
-loop-less : tie.Need-loop-less Inv-loop μ-loop
-loop-less c = omega arith
 
 loop-again : tie.Need-loop-again Inv-loop μ-loop
 loop-again c =
@@ -84,14 +60,14 @@ sum-below-spec =
     (tie.spec
     Inv-loop
     μ-loop
-    least-requires
+    (λ c κs. search needs)
     loop-holds
-    cast-of-coefficient
-    shared-slice-read-of-coefficient
-    of-coefficient-requires
-    widened-requires
-    add-sum
-    add-place
-    loop-less
+    (λ c. omega arith)
+    (λ c. omega arith)
+    (λ c κs. search needs)
+    (λ c κs. search needs)
+    (λ c. omega arith)
+    (λ c. omega arith)
+    (λ c. omega arith)
     loop-again
     returns)

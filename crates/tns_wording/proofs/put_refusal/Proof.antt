@@ -9,27 +9,6 @@ use borrow.Author.Needs.{needs}
 use Rattle.tns_wording.proofs.put_refusal.Statement.{statement}
 use Rattle.tns_wording.proofs.put_refusal.Tie as tie
 
-number-requires : tie.Need-number-requires
-number-requires c κs = search needs
-
-enum-known-why : tie.Need-enum-known-why
-enum-known-why c = search needs
-
-put-place-requires : tie.Need-put-place-requires
-put-place-requires c κs = search needs
-
-enum-known-why-2 : tie.Need-enum-known-why-2
-enum-known-why-2 c = search needs
-
-put-place-requires-2 : tie.Need-put-place-requires-2
-put-place-requires-2 c κs = search needs
-
-put-number-requires : tie.Need-put-number-requires
-put-number-requires c κs = search needs
-
-same-length : tie.Need-same-length
-same-length c = search needs
-
 returns : tie.Need-returns
 returns c =
     let placed = c .before .before in
@@ -42,9 +21,6 @@ returns c =
           ∙ ap (after (length (g .out .now)) (take (g .at) (g .out .now))) (with-place (called .number .result) (order .0) (order .1 .0) (g .why) (Order (order .0) (order .1 .0)) (matched .why .given .1) refl (called .number .ensures)),
     )
 
-same-length-2 : tie.Need-same-length-2
-same-length-2 c = search needs
-
 returns-2 : tie.Need-returns-2
 returns-2 c =
     let placed = c .before .before in
@@ -56,9 +32,6 @@ returns-2 c =
       placed .put-place2 .ensures .1
           ∙ ap (after (length (g .out .now)) (take (g .at) (g .out .now))) (with-place (called .number .result) (index .0) (index .1 .0) (g .why) (Index (index .0) (index .1 .0)) (matched .why2 .given .1) refl (called .number .ensures)),
     )
-
-same-length-3 : tie.Need-same-length-3
-same-length-3 c = search needs
 
 returns-3 : tie.Need-returns-3
 returns-3 c =
@@ -75,15 +48,15 @@ pub put-refusal-spec : {M : Type 1} → statement M
 put-refusal-spec =
     tie.close
     (tie.spec
-    number-requires
-    enum-known-why
-    put-place-requires
-    enum-known-why-2
-    put-place-requires-2
-    put-number-requires
-    same-length
+    (λ c κs. search needs)
+    (λ c. search needs)
+    (λ c κs. search needs)
+    (λ c. search needs)
+    (λ c κs. search needs)
+    (λ c κs. search needs)
+    (λ c. search needs)
     returns
-    same-length-2
+    (λ c. search needs)
     returns-2
-    same-length-3
+    (λ c. search needs)
     returns-3)

@@ -9,27 +9,6 @@ use borrow.Author.Needs.{needs}
 use Rattle.tns_wording.proofs.put_saying.Statement.{statement}
 use Rattle.tns_wording.proofs.put_saying.Tie as tie
 
-record-cost-requires : tie.Need-record-cost-requires
-record-cost-requires c κs = search needs
-
-enum-told : tie.Need-enum-told
-enum-told c = search needs
-
-slice-aggregate-put : tie.Need-slice-aggregate-put
-slice-aggregate-put c = search needs
-
-put-requires : tie.Need-put-requires
-put-requires c κs = search needs
-
-enum-known-answer : tie.Need-enum-known-answer
-enum-known-answer c = search needs
-
-put-cost-requires : tie.Need-put-cost-requires
-put-cost-requires c κs = search needs
-
-same-length : tie.Need-same-length
-same-length c = search needs
-
 returns : tie.Need-returns
 returns c =
     let word = c .before .before in
@@ -40,9 +19,6 @@ returns c =
       word .put .ensures .1
           ∙ ap (λ (l : Line). after (length (g .out .now)) (take (g .at) (g .out .now)) (sayingText l)) (sym (ap recordSays (matched .enum-told .given .1)) ∙ called .record-cost .ensures),
     )
-
-same-length-2 : tie.Need-same-length-2
-same-length-2 c = search needs
 
 returns-2 : tie.Need-returns-2
 returns-2 c =
@@ -59,13 +35,13 @@ pub put-saying-spec : {M : Type 1} → statement M
 put-saying-spec =
     tie.close
     (tie.spec
-    record-cost-requires
-    enum-told
-    slice-aggregate-put
-    put-requires
-    enum-known-answer
-    put-cost-requires
-    same-length
+    (λ c κs. search needs)
+    (λ c. search needs)
+    (λ c. search needs)
+    (λ c κs. search needs)
+    (λ c. search needs)
+    (λ c κs. search needs)
+    (λ c. search needs)
     returns
-    same-length-2
+    (λ c. search needs)
     returns-2)

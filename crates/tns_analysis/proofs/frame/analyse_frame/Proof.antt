@@ -8,9 +8,6 @@ use Rattle.tns_analysis.proofs.Limits.{side-reported}
 use Rattle.tns_analysis.proofs.frame.analyse_frame.Statement.{statement}
 use Rattle.tns_analysis.proofs.frame.analyse_frame.Tie as tie
 
-side-of-requires : tie.Need-side-of-requires
-side-of-requires c κs = search needs
-
 side-bits-requires : tie.Need-side-bits-requires
 side-bits-requires c κs =
     let g = c .before .before .args in
@@ -20,4 +17,6 @@ returns : tie.Need-returns
 returns c = (c .before .side-of .ensures, c .side-bits .ensures ∙ ap bitsOf (c .before .side-of .ensures))
 
 pub analyse-frame-spec : {M : Type 1} → statement M
-analyse-frame-spec = tie.close (tie.spec side-of-requires side-bits-requires returns)
+analyse-frame-spec = tie.close (tie.spec (λ c κs. search needs)
+    side-bits-requires
+    returns)

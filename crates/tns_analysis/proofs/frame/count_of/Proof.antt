@@ -11,4 +11,5 @@ returns-2 : tie.Need-returns-2
 returns-2 c = rw (ne-eqb (c .before .before .args .row .second .stop) 0 (c .if1 .left))
 
 pub count-of-spec : {M : Type 1} → statement M
-count-of-spec = tie.close (tie.spec returns returns-2)
+count-of-spec = tie.close (tie.spec returns
+    returns-2)

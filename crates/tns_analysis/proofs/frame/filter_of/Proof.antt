@@ -25,18 +25,9 @@ off-is : (b : Band) (lines : List Float) (flag : Bool) (weighting : ℕ) (g : Fi
 unfolding reflectionsOf
 off-is b lines flag weighting g eg off = rw (← eg, off) zeros-absent
 
-analyse-requires : tie.Need-analyse-requires
-analyse-requires c κs = search needs
-
-quantize-all-requires : tie.Need-quantize-all-requires
-quantize-all-requires c κs = search needs
-
 returns : tie.Need-returns
 unfolding filterOf
 returns c = c .quantize-all .ensures ∙ ap quantizedOf (c .before .before .before .analyse .ensures .1)
-
-none-requires : tie.Need-none-requires
-none-requires c κs = search needs
 
 returns-2 : tie.Need-returns-2
 unfolding filterOf
@@ -46,4 +37,8 @@ returns-2 c =
     c .none .ensures ∙ off-is (g .band) (g .lines .now) (g .flag) (g .weighting) (found .analyse .result .gain) (found .analyse .ensures .0) (c .before .if1 .left)
 
 pub filter-of-spec : {M : Type 1} → statement M
-filter-of-spec = tie.close (tie.spec analyse-requires quantize-all-requires returns none-requires returns-2)
+filter-of-spec = tie.close (tie.spec (λ c κs. search needs)
+    (λ c κs. search needs)
+    returns
+    (λ c κs. search needs)
+    returns-2)

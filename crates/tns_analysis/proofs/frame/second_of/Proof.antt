@@ -22,16 +22,10 @@ module _ (row : Row) (lines : List Float) (flag : Bool) (weighting : ℕ) where
   unfolding secondOf
   has-second h = rw (ne-eqb (row .second .stop) 0 h)
 
-none-requires : tie.Need-none-requires
-none-requires c κs = search needs
-
 returns : tie.Need-returns
 returns c =
     let g = c .before .before .before .before .args in
     c .none .ensures ∙ no-second (g .row) (g .lines .now) (g .flag) (g .weighting) (c .before .if1 .taken)
-
-filter-of-requires : tie.Need-filter-of-requires
-filter-of-requires c κs = search needs
 
 returns-2 : tie.Need-returns-2
 returns-2 c =
@@ -39,4 +33,7 @@ returns-2 c =
     c .filter-of .ensures ∙ has-second (g .row) (g .lines .now) (g .flag) (g .weighting) (c .before .if1 .left)
 
 pub second-of-spec : {M : Type 1} → statement M
-second-of-spec = tie.close (tie.spec none-requires returns filter-of-requires returns-2)
+second-of-spec = tie.close (tie.spec (λ c κs. search needs)
+    returns
+    (λ c κs. search needs)
+    returns-2)

@@ -30,23 +30,11 @@ module _ (s : SideData) (p : Reported s) where
       let all : take 8 js ≡ js = take-all 8 js (omega (arith, p .second .eight-indices)) in
       rw e (sym (two-counted (s .weighting) _ _ refl ∙ rw (take-at is js 8 (p .first .eight-indices), drop-at is js 8 (p .first .eight-indices), all)))
 
-slice-aggregate-filter-bits : tie.Need-slice-aggregate-filter-bits
-slice-aggregate-filter-bits c = search needs
-
-filter-bits-requires : tie.Need-filter-bits-requires
-filter-bits-requires c κs = search needs
-
 returns : tie.Need-returns
 returns c =
     let first = c .before .before in
     let start = first .before .before .before .before in
     first .filter-bits .ensures .0 ∙ one-filter (start .args .side) (start .pre) (c .if1 .taken)
-
-slice-aggregate-filter-bits-2 : tie.Need-slice-aggregate-filter-bits-2
-slice-aggregate-filter-bits-2 c = search needs
-
-filter-bits-requires-2 : tie.Need-filter-bits-requires-2
-filter-bits-requires-2 c κs = search needs
 
 add-result : tie.Need-add-result
 add-result c =
@@ -69,10 +57,10 @@ pub side-bits-spec : {M : Type 1} → statement M
 side-bits-spec =
     tie.close
     (tie.spec
-    slice-aggregate-filter-bits
-    filter-bits-requires
+    (λ c. search needs)
+    (λ c κs. search needs)
     returns
-    slice-aggregate-filter-bits-2
-    filter-bits-requires-2
+    (λ c. search needs)
+    (λ c κs. search needs)
     add-result
     returns-2)

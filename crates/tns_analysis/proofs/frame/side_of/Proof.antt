@@ -19,15 +19,6 @@ parts : (row : Row) (lines : List Float) (flag : Bool) (weighting filters : ℕ)
 unfolding sideOf
 parts row lines flag weighting filters a b ea eb ef = rw (ea, eb, ef)
 
-filter-of-requires : tie.Need-filter-of-requires
-filter-of-requires c κs = search needs
-
-second-of-requires : tie.Need-second-of-requires
-second-of-requires c κs = search needs
-
-count-of-requires : tie.Need-count-of-requires
-count-of-requires c κs = search needs
-
 returns : tie.Need-returns
 returns c =
     let second = c .before in
@@ -37,4 +28,7 @@ returns c =
     (first .filter-of .ensures) (second .second-of .ensures) (c .count-of .ensures)
 
 pub side-of-spec : {M : Type 1} → statement M
-side-of-spec = tie.close (tie.spec filter-of-requires second-of-requires count-of-requires returns)
+side-of-spec = tie.close (tie.spec (λ c κs. search needs)
+    (λ c κs. search needs)
+    (λ c κs. search needs)
+    returns)

@@ -40,15 +40,6 @@ fine-at : (c : tie.After-enum-told) →
     noFault ≡ sideChecks (g .filters) (g .orders .now) (g .indices .now) noFault
 fine-at c = sym (ap sideSays (c .enum-told .given .1)) ∙ c .before .before .check-side .ensures
 
-check-side-requires : tie.Need-check-side-requires
-check-side-requires c κs = search needs
-
-enum-known-side : tie.Need-enum-known-side
-enum-known-side c = search needs
-
-enum-told : tie.Need-enum-told
-enum-told c = search needs
-
 -- a result that says what the definition does has at most 168 bits
 few : (answer : CostAnswer) (weighting filters : ℕ) (orders indices : List ℕ) → costSays answer ≡ costOf weighting filters orders indices
     → (costSays answer ≡ costOf weighting filters orders indices) × (bitsIn itsBits (costSays answer) ≤ 168)
@@ -85,9 +76,9 @@ pub cost-spec : {M : Type 1} → statement M
 cost-spec =
     tie.close
     (tie.spec
-    check-side-requires
-    enum-known-side
-    enum-told
+    (λ c κs. search needs)
+    (λ c. search needs)
+    (λ c. search needs)
     returns
     counted-bits-requires
     returns-2

@@ -15,41 +15,11 @@ returns : tie.Need-returns
 unfolding countedBits
 returns c = rw (c .if1 .taken)
 
-shared-slice-read-filter-bits : tie.Need-shared-slice-read-filter-bits
-shared-slice-read-filter-bits c = search needs
-
-sub-filter-bits : tie.Need-sub-filter-bits
-sub-filter-bits c = search needs
-
-part-filter-bits-start : tie.Need-part-filter-bits-start
-part-filter-bits-start c = search needs
-
-part-filter-bits-end : tie.Need-part-filter-bits-end
-part-filter-bits-end c = search needs
-
-filter-bits-requires : tie.Need-filter-bits-requires
-filter-bits-requires c κs = search needs
-
 returns-2 : tie.Need-returns-2
 returns-2 c =
     let start = c .before .before .before .before .before .before .before in
     let g = start .args in
     c .before .filter-bits .ensures .0 ∙ sym (rw (c .if2 .taken) (one-counted (g .weighting) (g .orders .now) (g .indices .now) (start .pre .two-orders)))
-
-shared-slice-read-filter-bits-2 : tie.Need-shared-slice-read-filter-bits-2
-shared-slice-read-filter-bits-2 c = search needs
-
-sub-filter-bits-2 : tie.Need-sub-filter-bits-2
-sub-filter-bits-2 c = search needs
-
-part-filter-bits-start-2 : tie.Need-part-filter-bits-start-2
-part-filter-bits-start-2 c = search needs
-
-part-filter-bits-end-2 : tie.Need-part-filter-bits-end-2
-part-filter-bits-end-2 c = search needs
-
-filter-bits-requires-2 : tie.Need-filter-bits-requires-2
-filter-bits-requires-2 c κs = search needs
 
 add-result : tie.Need-add-result
 add-result c =
@@ -76,16 +46,16 @@ counted-bits-spec =
     tie.close
     (tie.spec
     returns
-    shared-slice-read-filter-bits
-    sub-filter-bits
-    part-filter-bits-start
-    part-filter-bits-end
-    filter-bits-requires
+    (λ c. search needs)
+    (λ c. search needs)
+    (λ c. search needs)
+    (λ c. search needs)
+    (λ c κs. search needs)
     returns-2
-    shared-slice-read-filter-bits-2
-    sub-filter-bits-2
-    part-filter-bits-start-2
-    part-filter-bits-end-2
-    filter-bits-requires-2
+    (λ c. search needs)
+    (λ c. search needs)
+    (λ c. search needs)
+    (λ c. search needs)
+    (λ c κs. search needs)
     add-result
     returns-3)

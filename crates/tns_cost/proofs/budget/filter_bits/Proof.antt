@@ -7,9 +7,6 @@ use Rattle.tns_cost.proofs.Costs.{filter-cost-affordable, filter-bits-a
 use Rattle.tns_cost.proofs.budget.filter_bits.Statement.{statement}
 use Rattle.tns_cost.proofs.budget.filter_bits.Tie as tie
 
-filter-cost-requires : tie.Need-filter-cost-requires
-filter-cost-requires c κs = search needs
-
 add-result : tie.Need-add-result
 add-result c =
     let g = c .before .before .args in
@@ -35,4 +32,8 @@ returns c =
 
 pub filter-bits-spec : {M : Type 1} → statement M
 filter-bits-spec =
-    tie.close (tie.spec filter-cost-requires add-result cast-result add-result-2 returns)
+    tie.close (tie.spec (λ c κs. search needs)
+    add-result
+    cast-result
+    add-result-2
+    returns)

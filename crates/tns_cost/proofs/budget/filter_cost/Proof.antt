@@ -24,15 +24,6 @@ parts weighting order is = refl
 returns : tie.Need-returns
 returns c = rw (c .if1 .taken) (free (c .before .before .args .weighting) (c .before .before .args .indices .now))
 
-order-bits-requires : tie.Need-order-bits-requires
-order-bits-requires c κs = search needs
-
-widened-requires : tie.Need-widened-requires
-widened-requires c κs = search needs
-
-coef-bits-below-requires : tie.Need-coef-bits-below-requires
-coef-bits-below-requires c κs = search needs
-
 add-result : tie.Need-add-result
 add-result c =
     let g = c .before .before .before .before .before .args in
@@ -63,8 +54,8 @@ filter-cost-spec =
     tie.close
     (tie.spec
     returns
-    order-bits-requires
-    widened-requires
-    coef-bits-below-requires
+    (λ c κs. search needs)
+    (λ c κs. search needs)
+    (λ c κs. search needs)
     add-result
     returns-2)

@@ -23,33 +23,6 @@ enough bytes h = simp (le-ltb _ _ h)
 returns : tie.Need-returns
 returns c = too-few (c .before .before .args .bytes .now) (c .if1 .taken)
 
-shared-slice-read-cost : tie.Need-shared-slice-read-cost
-shared-slice-read-cost c = search needs
-
-shared-slice-read-cost-2 : tie.Need-shared-slice-read-cost-2
-shared-slice-read-cost-2 c = search needs
-
-sub-cost : tie.Need-sub-cost
-sub-cost c = search needs
-
-part-cost-start : tie.Need-part-cost-start
-part-cost-start c = search needs
-
-part-cost-end : tie.Need-part-cost-end
-part-cost-end c = search needs
-
-sub-cost-2 : tie.Need-sub-cost-2
-sub-cost-2 c = search needs
-
-part-cost-start-2 : tie.Need-part-cost-start-2
-part-cost-start-2 c = search needs
-
-part-cost-end-2 : tie.Need-part-cost-end-2
-part-cost-end-2 c = search needs
-
-cost-requires : tie.Need-cost-requires
-cost-requires c κs = search needs
-
 returns-2 : tie.Need-returns-2
 returns-2 c =
     let else = c .before .before .before .before .before in
@@ -60,13 +33,13 @@ record-cost-spec =
     tie.close
     (tie.spec
     returns
-    shared-slice-read-cost
-    shared-slice-read-cost-2
-    sub-cost
-    part-cost-start
-    part-cost-end
-    sub-cost-2
-    part-cost-start-2
-    part-cost-end-2
-    cost-requires
+    (λ c. search needs)
+    (λ c. search needs)
+    (λ c. search needs)
+    (λ c. search needs)
+    (λ c. search needs)
+    (λ c. search needs)
+    (λ c. search needs)
+    (λ c. search needs)
+    (λ c κs. search needs)
     returns-2)

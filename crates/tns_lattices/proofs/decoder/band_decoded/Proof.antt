@@ -20,37 +20,10 @@ arm order known e q s xs r ys p = rw e p
 named : (order known : ℕ) → order ≡ known → min order 8 ≡ min known 8
 named order known e = ap (λ (o : ℕ). min o 8) e
 
-lines-decoded-requires : tie.Need-lines-decoded-requires
-lines-decoded-requires c κs = search needs
-
-lines-decoded-requires-2 : tie.Need-lines-decoded-requires-2
-lines-decoded-requires-2 c κs = search needs
-
-lines-decoded-requires-3 : tie.Need-lines-decoded-requires-3
-lines-decoded-requires-3 c κs = search needs
-
-lines-decoded-requires-4 : tie.Need-lines-decoded-requires-4
-lines-decoded-requires-4 c κs = search needs
-
-lines-decoded-requires-5 : tie.Need-lines-decoded-requires-5
-lines-decoded-requires-5 c κs = search needs
-
-lines-decoded-requires-6 : tie.Need-lines-decoded-requires-6
-lines-decoded-requires-6 c κs = search needs
-
-lines-decoded-requires-7 : tie.Need-lines-decoded-requires-7
-lines-decoded-requires-7 c κs = search needs
-
-lines-decoded-requires-8 : tie.Need-lines-decoded-requires-8
-lines-decoded-requires-8 c κs = search needs
-
 returns : tie.Need-returns
 returns c =
     let g = c .before .before .args in
     arm (g .order) 0 (named (g .order) 0 (c .match .keys1)) (g .q) (g .states) (g .lines .now) _ _ (order-0 (g .q) (g .states) (g .lines .now))
-
-same-length : tie.Need-same-length
-same-length c = search needs
 
 returns-2 : tie.Need-returns-2
 returns-2 c =
@@ -58,17 +31,11 @@ returns-2 c =
     let g = at .before .before .args in
     arm (g .order) 1 (named (g .order) 1 (at .match .keys2)) (g .q) (g .states) (g .lines .now) _ _ (c .before .before .lines-decoded .ensures)
 
-same-length-2 : tie.Need-same-length-2
-same-length-2 c = search needs
-
 returns-3 : tie.Need-returns-3
 returns-3 c =
     let at = c .before .before .before .before in
     let g = at .before .before .args in
     arm (g .order) 2 (named (g .order) 2 (at .match .keys3)) (g .q) (g .states) (g .lines .now) _ _ (c .before .before .lines-decoded2 .ensures)
-
-same-length-3 : tie.Need-same-length-3
-same-length-3 c = search needs
 
 returns-4 : tie.Need-returns-4
 returns-4 c =
@@ -76,17 +43,11 @@ returns-4 c =
     let g = at .before .before .args in
     arm (g .order) 3 (named (g .order) 3 (at .match .keys4)) (g .q) (g .states) (g .lines .now) _ _ (c .before .before .lines-decoded3 .ensures)
 
-same-length-4 : tie.Need-same-length-4
-same-length-4 c = search needs
-
 returns-5 : tie.Need-returns-5
 returns-5 c =
     let at = c .before .before .before .before in
     let g = at .before .before .args in
     arm (g .order) 4 (named (g .order) 4 (at .match .keys5)) (g .q) (g .states) (g .lines .now) _ _ (c .before .before .lines-decoded4 .ensures)
-
-same-length-5 : tie.Need-same-length-5
-same-length-5 c = search needs
 
 returns-6 : tie.Need-returns-6
 returns-6 c =
@@ -94,26 +55,17 @@ returns-6 c =
     let g = at .before .before .args in
     arm (g .order) 5 (named (g .order) 5 (at .match .keys6)) (g .q) (g .states) (g .lines .now) _ _ (c .before .before .lines-decoded5 .ensures)
 
-same-length-6 : tie.Need-same-length-6
-same-length-6 c = search needs
-
 returns-7 : tie.Need-returns-7
 returns-7 c =
     let at = c .before .before .before .before in
     let g = at .before .before .args in
     arm (g .order) 6 (named (g .order) 6 (at .match .keys7)) (g .q) (g .states) (g .lines .now) _ _ (c .before .before .lines-decoded6 .ensures)
 
-same-length-7 : tie.Need-same-length-7
-same-length-7 c = search needs
-
 returns-8 : tie.Need-returns-8
 returns-8 c =
     let at = c .before .before .before .before in
     let g = at .before .before .args in
     arm (g .order) 7 (named (g .order) 7 (at .match .keys8)) (g .q) (g .states) (g .lines .now) _ _ (c .before .before .lines-decoded7 .ensures)
-
-same-length-8 : tie.Need-same-length-8
-same-length-8 c = search needs
 
 returns-9 : tie.Need-returns-9
 returns-9 c =
@@ -129,28 +81,28 @@ pub band-decoded-spec : {M : Type 1} → statement M
 band-decoded-spec =
     tie.close
     (tie.spec
-    lines-decoded-requires
-    lines-decoded-requires-2
-    lines-decoded-requires-3
-    lines-decoded-requires-4
-    lines-decoded-requires-5
-    lines-decoded-requires-6
-    lines-decoded-requires-7
-    lines-decoded-requires-8
+    (λ c κs. search needs)
+    (λ c κs. search needs)
+    (λ c κs. search needs)
+    (λ c κs. search needs)
+    (λ c κs. search needs)
+    (λ c κs. search needs)
+    (λ c κs. search needs)
+    (λ c κs. search needs)
     returns
-    same-length
+    (λ c. search needs)
     returns-2
-    same-length-2
+    (λ c. search needs)
     returns-3
-    same-length-3
+    (λ c. search needs)
     returns-4
-    same-length-4
+    (λ c. search needs)
     returns-5
-    same-length-5
+    (λ c. search needs)
     returns-6
-    same-length-6
+    (λ c. search needs)
     returns-7
-    same-length-7
+    (λ c. search needs)
     returns-8
-    same-length-8
+    (λ c. search needs)
     returns-9)

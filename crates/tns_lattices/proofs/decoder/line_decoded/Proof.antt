@@ -43,65 +43,14 @@ Inv-loop order line q last state₀ t₀ k₀ state t k = (k ≤ last) × (stage
 abbrev μ-loop : tie.MeasureT-loop
 μ-loop order line q last state₀ t₀ k₀ state t k = k
 
-sub-last : tie.Need-sub-last Inv-loop μ-loop
-sub-last c = omega arith
-
-mul-t : tie.Need-mul-t Inv-loop μ-loop
-mul-t c = omega arith
-
-array-read-t : tie.Need-array-read-t Inv-loop μ-loop
-array-read-t c = omega arith
-
-mul-t-2 : tie.Need-mul-t-2 Inv-loop μ-loop
-mul-t-2 c = omega arith
-
-array-read-t-2 : tie.Need-array-read-t-2 Inv-loop μ-loop
-array-read-t-2 c = omega arith
-
 loop-holds : tie.Need-loop-holds Inv-loop μ-loop
 loop-holds c = (omega arith, refl)
-
-sub-k : tie.Need-sub-k Inv-loop μ-loop
-sub-k c = omega arith
-
-mul-old : tie.Need-mul-old Inv-loop μ-loop
-mul-old c = omega arith
-
-array-read-old : tie.Need-array-read-old Inv-loop μ-loop
-array-read-old c = omega arith
-
-mul-t-3 : tie.Need-mul-t-3 Inv-loop μ-loop
-mul-t-3 c = omega arith
-
-array-read-t-3 : tie.Need-array-read-t-3 Inv-loop μ-loop
-array-read-t-3 c = omega arith
-
-mul-state : tie.Need-mul-state Inv-loop μ-loop
-mul-state c = omega arith
-
-array-read-state : tie.Need-array-read-state Inv-loop μ-loop
-array-read-state c = omega arith
-
-add-state : tie.Need-add-state Inv-loop μ-loop
-add-state c = omega arith
-
-mul-state-2 : tie.Need-mul-state-2 Inv-loop μ-loop
-mul-state-2 c = omega arith
-
-array-write-state : tie.Need-array-write-state Inv-loop μ-loop
-array-write-state c = omega arith
-
-loop-less : tie.Need-loop-less Inv-loop μ-loop
-loop-less c = omega arith
 
 loop-again : tie.Need-loop-again Inv-loop μ-loop
 loop-again c =
     let l = c .before .loop in
     let g = c .before .before .args in
     (omega arith, l .inv .1 ∙ one-stage (g .t1) (l .k) (l .t) (l .state) (omega arith))
-
-array-write-state-2 : tie.Need-array-write-state-2 Inv-loop μ-loop
-array-write-state-2 c = omega arith
 
 returns : tie.Need-returns Inv-loop μ-loop
 returns c =
@@ -117,23 +66,23 @@ line-decoded-spec =
     (tie.spec
     Inv-loop
     μ-loop
-    sub-last
-    mul-t
-    array-read-t
-    mul-t-2
-    array-read-t-2
+    (λ c. omega arith)
+    (λ c. omega arith)
+    (λ c. omega arith)
+    (λ c. omega arith)
+    (λ c. omega arith)
     loop-holds
-    sub-k
-    mul-old
-    array-read-old
-    mul-t-3
-    array-read-t-3
-    mul-state
-    array-read-state
-    add-state
-    mul-state-2
-    array-write-state
-    loop-less
+    (λ c. omega arith)
+    (λ c. omega arith)
+    (λ c. omega arith)
+    (λ c. omega arith)
+    (λ c. omega arith)
+    (λ c. omega arith)
+    (λ c. omega arith)
+    (λ c. omega arith)
+    (λ c. omega arith)
+    (λ c. omega arith)
+    (λ c. omega arith)
     loop-again
-    array-write-state-2
+    (λ c. omega arith)
     returns)

@@ -35,26 +35,8 @@ abbrev μ-loop : tie.MeasureT-loop
 loop-holds : tie.Need-loop-holds Inv-loop μ-loop
 loop-holds c = (omega arith, refl, refl, refl)
 
-mul-line-decoded : tie.Need-mul-line-decoded Inv-loop μ-loop
-mul-line-decoded c = omega arith
-
-slice-read-line-decoded : tie.Need-slice-read-line-decoded Inv-loop μ-loop
-slice-read-line-decoded c = omega arith
-
 line-decoded-requires : tie.Need-line-decoded-requires Inv-loop μ-loop
 line-decoded-requires c κs = c .before .before .before .before .pre
-
-mul-lines : tie.Need-mul-lines Inv-loop μ-loop
-mul-lines c = omega arith
-
-slice-write-lines : tie.Need-slice-write-lines Inv-loop μ-loop
-slice-write-lines c = search needs
-
-add-i : tie.Need-add-i Inv-loop μ-loop
-add-i c = omega arith
-
-loop-less : tie.Need-loop-less Inv-loop μ-loop
-loop-less c = omega arith
 
 loop-again : tie.Need-loop-again Inv-loop μ-loop
 unfolding linesDecoded statesAfter
@@ -72,9 +54,6 @@ loop-again c =
       l .inv .2 ∙ one-more f h nan (l .state) (p .states) (l .lines) (l .i) (p .t) (omega arith) t s,
       l .inv .3 ∙ state-more f h nan (l .state) (p .states) (l .lines) (l .i) (p .t) (omega arith) s,
     )
-
-same-length : tie.Need-same-length Inv-loop μ-loop
-same-length c = search needs
 
 returns : tie.Need-returns Inv-loop μ-loop
 unfolding linesDecoded statesAfter
@@ -94,13 +73,13 @@ lines-decoded-spec =
     Inv-loop
     μ-loop
     loop-holds
-    mul-line-decoded
-    slice-read-line-decoded
+    (λ c. omega arith)
+    (λ c. omega arith)
     line-decoded-requires
-    mul-lines
-    slice-write-lines
-    add-i
-    loop-less
+    (λ c. omega arith)
+    (λ c. search needs)
+    (λ c. omega arith)
+    (λ c. omega arith)
     loop-again
-    same-length
+    (λ c. search needs)
     returns)

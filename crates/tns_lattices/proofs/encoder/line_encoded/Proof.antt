@@ -23,30 +23,6 @@ unfolding lineEncoded
 whole q zero states line p h e = absurd (not-suc-le-zero h)
 whole q (suc k) states line p h e = rw (e, sub-one)
 
-sub-last : tie.Need-sub-last
-sub-last c = search needs
-
-stages-up-requires : tie.Need-stages-up-requires
-stages-up-requires c κs = search needs
-
-mul-t : tie.Need-mul-t
-mul-t c = search needs
-
-array-read-t : tie.Need-array-read-t
-array-read-t c = search needs
-
-mul-t-2 : tie.Need-mul-t-2
-mul-t-2 c = search needs
-
-array-read-t-2 : tie.Need-array-read-t-2
-array-read-t-2 c = search needs
-
-mul-after : tie.Need-mul-after
-mul-after c = search needs
-
-array-write-after : tie.Need-array-write-after
-array-write-after c = search needs
-
 returns : tie.Need-returns
 returns c =
     let start = c .before .before .before in
@@ -57,12 +33,12 @@ pub line-encoded-spec : {M : Type 1} → statement M
 line-encoded-spec =
     tie.close
     (tie.spec
-    sub-last
-    stages-up-requires
-    mul-t
-    array-read-t
-    mul-t-2
-    array-read-t-2
-    mul-after
-    array-write-after
+    (λ c. search needs)
+    (λ c κs. search needs)
+    (λ c. search needs)
+    (λ c. search needs)
+    (λ c. search needs)
+    (λ c. search needs)
+    (λ c. search needs)
+    (λ c. search needs)
     returns)

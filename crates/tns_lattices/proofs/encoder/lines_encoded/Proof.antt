@@ -35,26 +35,8 @@ abbrev μ-loop : tie.MeasureT-loop
 loop-holds : tie.Need-loop-holds Inv-loop μ-loop
 loop-holds c = (omega arith, refl, refl, refl)
 
-mul-line-encoded : tie.Need-mul-line-encoded Inv-loop μ-loop
-mul-line-encoded c = omega arith
-
-slice-read-line-encoded : tie.Need-slice-read-line-encoded Inv-loop μ-loop
-slice-read-line-encoded c = omega arith
-
 line-encoded-requires : tie.Need-line-encoded-requires Inv-loop μ-loop
 line-encoded-requires c κs = c .before .before .before .before .pre
-
-mul-lines : tie.Need-mul-lines Inv-loop μ-loop
-mul-lines c = omega arith
-
-slice-write-lines : tie.Need-slice-write-lines Inv-loop μ-loop
-slice-write-lines c = search needs
-
-add-i : tie.Need-add-i Inv-loop μ-loop
-add-i c = omega arith
-
-loop-less : tie.Need-loop-less Inv-loop μ-loop
-loop-less c = omega arith
 
 loop-again : tie.Need-loop-again Inv-loop μ-loop
 unfolding linesEncoded statesAfter
@@ -72,9 +54,6 @@ loop-again c =
       l .inv .2 ∙ one-more f h nan (l .state) (p .states) (l .lines) (l .i) (p .t) (omega arith) t s,
       l .inv .3 ∙ state-more f h nan (l .state) (p .states) (l .lines) (l .i) (p .t) (omega arith) s,
     )
-
-same-length : tie.Need-same-length Inv-loop μ-loop
-same-length c = search needs
 
 returns : tie.Need-returns Inv-loop μ-loop
 unfolding linesEncoded statesAfter
@@ -94,13 +73,13 @@ lines-encoded-spec =
     Inv-loop
     μ-loop
     loop-holds
-    mul-line-encoded
-    slice-read-line-encoded
+    (λ c. omega arith)
+    (λ c. omega arith)
     line-encoded-requires
-    mul-lines
-    slice-write-lines
-    add-i
-    loop-less
+    (λ c. omega arith)
+    (λ c. search needs)
+    (λ c. omega arith)
+    (λ c. omega arith)
     loop-again
-    same-length
+    (λ c. search needs)
     returns)

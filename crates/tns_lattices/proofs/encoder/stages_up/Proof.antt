@@ -26,21 +26,6 @@ loop-holds : tie.Need-loop-holds Inv-loop μ-loop
 unfolding stagesTo
 loop-holds c = (omega arith, refl)
 
-mul-stage-up : tie.Need-mul-stage-up Inv-loop μ-loop
-mul-stage-up c = omega arith
-
-array-read-stage-up : tie.Need-array-read-stage-up Inv-loop μ-loop
-array-read-stage-up c = omega arith
-
-stage-up-requires : tie.Need-stage-up-requires Inv-loop μ-loop
-stage-up-requires c κs = omega arith
-
-add-k : tie.Need-add-k Inv-loop μ-loop
-add-k c = omega arith
-
-loop-less : tie.Need-loop-less Inv-loop μ-loop
-loop-less c = omega arith
-
 loop-again : tie.Need-loop-again Inv-loop μ-loop
 loop-again c =
     let l = c .before .before .loop in
@@ -61,10 +46,10 @@ stages-up-spec =
     Inv-loop
     μ-loop
     loop-holds
-    mul-stage-up
-    array-read-stage-up
-    stage-up-requires
-    add-k
-    loop-less
+    (λ c. omega arith)
+    (λ c. omega arith)
+    (λ c κs. omega arith)
+    (λ c. omega arith)
+    (λ c. omega arith)
     loop-again
     returns)

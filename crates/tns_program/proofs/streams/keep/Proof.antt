@@ -34,9 +34,6 @@ abbrev μ-loop : tie.MeasureT-loop
 returns : tie.Need-returns Inv-loop μ-loop
 returns c = λ h. absurd (omega arith)
 
-sub-if2 : tie.Need-sub-if2 Inv-loop μ-loop
-sub-if2 c = search needs
-
 returns-2 : tie.Need-returns-2 Inv-loop μ-loop
 returns-2 c = λ h. absurd (omega arith)
 
@@ -44,21 +41,6 @@ loop-holds : tie.Need-loop-holds Inv-loop μ-loop
 loop-holds c =
     let g = c .before .before .args in
     (refl, omega arith, paste-zero (g .piece .now) 0 (drop (g .from) (g .piece .now)))
-
-add-piece : tie.Need-add-piece Inv-loop μ-loop
-add-piece c = omega arith
-
-slice-read-piece : tie.Need-slice-read-piece Inv-loop μ-loop
-slice-read-piece c = omega arith
-
-slice-write-piece : tie.Need-slice-write-piece Inv-loop μ-loop
-slice-write-piece c = omega arith
-
-add-i : tie.Need-add-i Inv-loop μ-loop
-add-i c = omega arith
-
-loop-less : tie.Need-loop-less Inv-loop μ-loop
-loop-less c = omega arith
 
 loop-again : tie.Need-loop-again Inv-loop μ-loop
 loop-again c =
@@ -82,9 +64,6 @@ loop-again c =
           ∙ ap (paste bytes 0 rest) (sym (add-one (l .i))),
     )
 
-same-length : tie.Need-same-length Inv-loop μ-loop
-same-length c = omega arith
-
 returns-3 : tie.Need-returns-3 Inv-loop μ-loop
 returns-3 c =
     let l = c .before .loop in
@@ -105,14 +84,14 @@ keep-spec =
     Inv-loop
     μ-loop
     returns
-    sub-if2
+    (λ c. search needs)
     returns-2
     loop-holds
-    add-piece
-    slice-read-piece
-    slice-write-piece
-    add-i
-    loop-less
+    (λ c. omega arith)
+    (λ c. omega arith)
+    (λ c. omega arith)
+    (λ c. omega arith)
+    (λ c. omega arith)
     loop-again
-    same-length
+    (λ c. omega arith)
     returns-3)

@@ -19,34 +19,10 @@ Inv-loop text out₀ at start count i₀ out i = (length out ≡ length out₀) 
 abbrev μ-loop : tie.MeasureT-loop
 μ-loop text out₀ at start count i₀ out i = count - i
 
-least-requires : tie.Need-least-requires Inv-loop μ-loop
-least-requires c κs = search needs
-
-sub-least : tie.Need-sub-least Inv-loop μ-loop
-sub-least c = omega arith
-
-least-requires-2 : tie.Need-least-requires-2 Inv-loop μ-loop
-least-requires-2 c κs = search needs
-
 loop-holds : tie.Need-loop-holds Inv-loop μ-loop
 loop-holds c =
     let g = c .before .before .before .before .args in
     (refl, omega arith, paste-zero (g .out .now) (c .before .least .result) (g .text .now))
-
-shared-slice-read-out : tie.Need-shared-slice-read-out Inv-loop μ-loop
-shared-slice-read-out c = omega arith
-
-add-out : tie.Need-add-out Inv-loop μ-loop
-add-out c = omega arith
-
-slice-write-out : tie.Need-slice-write-out Inv-loop μ-loop
-slice-write-out c = omega arith
-
-add-i : tie.Need-add-i Inv-loop μ-loop
-add-i c = omega arith
-
-loop-less : tie.Need-loop-less Inv-loop μ-loop
-loop-less c = omega arith
 
 loop-again : tie.Need-loop-again Inv-loop μ-loop
 loop-again c =
@@ -59,12 +35,6 @@ loop-again c =
           ∙ paste-suc (g .out .now) start (g .text .now) (l .i) 0 (omega arith) (omega arith)
           ∙ ap (paste (g .out .now) start (g .text .now)) (sym (add-one (l .i))),
     )
-
-add-result : tie.Need-add-result Inv-loop μ-loop
-add-result c = omega arith
-
-same-length : tie.Need-same-length Inv-loop μ-loop
-same-length c = omega arith
 
 returns : tie.Need-returns Inv-loop μ-loop
 returns c =
@@ -84,16 +54,16 @@ put-spec =
     (tie.spec
     Inv-loop
     μ-loop
-    least-requires
-    sub-least
-    least-requires-2
+    (λ c κs. search needs)
+    (λ c. omega arith)
+    (λ c κs. search needs)
     loop-holds
-    shared-slice-read-out
-    add-out
-    slice-write-out
-    add-i
-    loop-less
+    (λ c. omega arith)
+    (λ c. omega arith)
+    (λ c. omega arith)
+    (λ c. omega arith)
+    (λ c. omega arith)
     loop-again
-    add-result
-    same-length
+    (λ c. omega arith)
+    (λ c. omega arith)
     returns)

@@ -50,4 +50,7 @@ returns-4 c =
     off (g .gain) (g .on) (g .weighting) (c .if1 .left)
 
 pub damping-of-spec : {M : Type 1} → statement M
-damping-of-spec = tie.close (tie.spec returns returns-2 returns-3 returns-4)
+damping-of-spec = tie.close (tie.spec returns
+    returns-2
+    returns-3
+    returns-4)

@@ -13,4 +13,5 @@ unfolding gainOf
 returns-2 c = rw (c .if1 .left)
 
 pub gain-of-spec : {M : Type 1} → statement M
-gain-of-spec = tie.close (tie.spec returns returns-2)
+gain-of-spec = tie.close (tie.spec returns
+    returns-2)

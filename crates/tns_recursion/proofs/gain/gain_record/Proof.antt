@@ -15,15 +15,6 @@ parts : (r0 error gain damping : Float) (flag on : Bool) (weighting : ℕ) → g
 unfolding gainRecord
 parts r0 error gain damping flag on weighting p q r = rw (r, q, p)
 
-gain-of-requires : tie.Need-gain-of-requires
-gain-of-requires c κs = search needs
-
-is-on-requires : tie.Need-is-on-requires
-is-on-requires c κs = search needs
-
-damping-of-requires : tie.Need-damping-of-requires
-damping-of-requires c κs = search needs
-
 returns : tie.Need-returns
 returns c =
     let g = c .before .before .before .args in
@@ -31,4 +22,7 @@ returns c =
     (c .before .before .gain-of .ensures) (c .before .is-on .ensures) (c .damping-of .ensures)
 
 pub gain-record-spec : {M : Type 1} → statement M
-gain-record-spec = tie.close (tie.spec gain-of-requires is-on-requires damping-of-requires returns)
+gain-record-spec = tie.close (tie.spec (λ c κs. search needs)
+    (λ c κs. search needs)
+    (λ c κs. search needs)
+    returns)

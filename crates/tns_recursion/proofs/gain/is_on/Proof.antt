@@ -27,4 +27,5 @@ returns-2 c =
     not-above (g .gain) (g .flag) (c .if1 .left)
 
 pub is-on-spec : {M : Type 1} → statement M
-is-on-spec = tie.close (tie.spec returns returns-2)
+is-on-spec = tie.close (tie.spec returns
+    returns-2)

@@ -26,27 +26,6 @@ loop-holds : tie.Need-loop-holds Inv-loop μ-loop
 unfolding crossed
 loop-holds c = (omega arith, refl)
 
-mul-sum : tie.Need-mul-sum Inv-loop μ-loop
-mul-sum c = omega arith
-
-array-read-sum : tie.Need-array-read-sum Inv-loop μ-loop
-array-read-sum c = omega arith
-
-sub-sum : tie.Need-sub-sum Inv-loop μ-loop
-sub-sum c = omega arith
-
-mul-sum-2 : tie.Need-mul-sum-2 Inv-loop μ-loop
-mul-sum-2 c = omega arith
-
-array-read-sum-2 : tie.Need-array-read-sum-2 Inv-loop μ-loop
-array-read-sum-2 c = omega arith
-
-add-n : tie.Need-add-n Inv-loop μ-loop
-add-n c = omega arith
-
-loop-less : tie.Need-loop-less Inv-loop μ-loop
-loop-less c = omega arith
-
 loop-again : tie.Need-loop-again Inv-loop μ-loop
 loop-again c =
     let l = c .before .loop in
@@ -66,12 +45,12 @@ crossed-sum-spec =
     Inv-loop
     μ-loop
     loop-holds
-    mul-sum
-    array-read-sum
-    sub-sum
-    mul-sum-2
-    array-read-sum-2
-    add-n
-    loop-less
+    (λ c. omega arith)
+    (λ c. omega arith)
+    (λ c. omega arith)
+    (λ c. omega arith)
+    (λ c. omega arith)
+    (λ c. omega arith)
+    (λ c. omega arith)
     loop-again
     returns)

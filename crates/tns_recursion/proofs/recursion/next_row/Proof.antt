@@ -18,15 +18,6 @@ Inv-loop rc k last row₀ n₀ row n = (0 < n) × (n ≤ k) × (length row ≡ 9
 abbrev μ-loop : tie.MeasureT-loop
 μ-loop rc k last row₀ n₀ row n = k - n
 
-array-write-row : tie.Need-array-write-row Inv-loop μ-loop
-array-write-row c = omega arith
-
-mul-row : tie.Need-mul-row Inv-loop μ-loop
-mul-row c = omega arith
-
-array-write-row-2 : tie.Need-array-write-row-2 Inv-loop μ-loop
-array-write-row-2 c = omega arith
-
 loop-holds : tie.Need-loop-holds Inv-loop μ-loop
 loop-holds c =
     let g = c .args in (
@@ -35,33 +26,6 @@ loop-holds c =
       simp length-set,
       row-start (g .t1) (g .rc) (g .k) (replicate 9 f0) refl (omega (arith, c .pre)) (omega (arith, c .pre)),
     )
-
-mul-row-2 : tie.Need-mul-row-2 Inv-loop μ-loop
-mul-row-2 c = omega arith
-
-array-read-row : tie.Need-array-read-row Inv-loop μ-loop
-array-read-row c = omega arith
-
-sub-row : tie.Need-sub-row Inv-loop μ-loop
-sub-row c = omega arith
-
-mul-row-3 : tie.Need-mul-row-3 Inv-loop μ-loop
-mul-row-3 c = omega arith
-
-array-read-row-2 : tie.Need-array-read-row-2 Inv-loop μ-loop
-array-read-row-2 c = omega arith
-
-mul-row-4 : tie.Need-mul-row-4 Inv-loop μ-loop
-mul-row-4 c = omega arith
-
-array-write-row-3 : tie.Need-array-write-row-3 Inv-loop μ-loop
-array-write-row-3 c = omega arith
-
-add-n : tie.Need-add-n Inv-loop μ-loop
-add-n c = omega arith
-
-loop-less : tie.Need-loop-less Inv-loop μ-loop
-loop-less c = omega arith
 
 loop-again : tie.Need-loop-again Inv-loop μ-loop
 loop-again c =
@@ -91,18 +55,18 @@ next-row-spec =
     (tie.spec
     Inv-loop
     μ-loop
-    array-write-row
-    mul-row
-    array-write-row-2
+    (λ c. omega arith)
+    (λ c. omega arith)
+    (λ c. omega arith)
     loop-holds
-    mul-row-2
-    array-read-row
-    sub-row
-    mul-row-3
-    array-read-row-2
-    mul-row-4
-    array-write-row-3
-    add-n
-    loop-less
+    (λ c. omega arith)
+    (λ c. omega arith)
+    (λ c. omega arith)
+    (λ c. omega arith)
+    (λ c. omega arith)
+    (λ c. omega arith)
+    (λ c. omega arith)
+    (λ c. omega arith)
+    (λ c. omega arith)
     loop-again
     returns)

@@ -5,15 +5,11 @@ use Rattle.tns_recursion.specs.Recursion.{stepped}
 use Rattle.tns_recursion.proofs.recursion.next_step.Statement.{statement}
 use Rattle.tns_recursion.proofs.recursion.next_step.Tie as tie
 
-reflected-requires : tie.Need-reflected-requires
-reflected-requires c κs = search needs
-
-next-row-requires : tie.Need-next-row-requires
-next-row-requires c κs = search needs
-
 returns : tie.Need-returns
 unfolding stepped
 returns c = rw (c .before .next-row .ensures, c .before .before .before .reflected .ensures)
 
 pub next-step-spec : {M : Type 1} → statement M
-next-step-spec = tie.close (tie.spec reflected-requires next-row-requires returns)
+next-step-spec = tie.close (tie.spec (λ c κs. search needs)
+    (λ c κs. search needs)
+    returns)

@@ -21,33 +21,6 @@ next : (r : List Float) (k : ℕ) (p n : Predictor) → n ≡ stepped r (suc k) 
 unfolding predicted
 next r k p n e h = e ∙ ap (stepped r (suc k)) h
 
-array-read-t14 : tie.Need-array-read-t14
-array-read-t14 c = search needs
-
-next-step-requires : tie.Need-next-step-requires
-next-step-requires c κs = search needs
-
-next-step-requires-2 : tie.Need-next-step-requires-2
-next-step-requires-2 c κs = search needs
-
-next-step-requires-3 : tie.Need-next-step-requires-3
-next-step-requires-3 c κs = search needs
-
-next-step-requires-4 : tie.Need-next-step-requires-4
-next-step-requires-4 c κs = search needs
-
-next-step-requires-5 : tie.Need-next-step-requires-5
-next-step-requires-5 c κs = search needs
-
-next-step-requires-6 : tie.Need-next-step-requires-6
-next-step-requires-6 c κs = search needs
-
-next-step-requires-7 : tie.Need-next-step-requires-7
-next-step-requires-7 c κs = search needs
-
-next-step-requires-8 : tie.Need-next-step-requires-8
-next-step-requires-8 c κs = search needs
-
 returns : tie.Need-returns
 unfolding unpredicted tab
 returns c =
@@ -73,13 +46,13 @@ pub predict-spec : {M : Type 1} → statement M
 predict-spec =
     tie.close
     (tie.spec
-    array-read-t14
-    next-step-requires
-    next-step-requires-2
-    next-step-requires-3
-    next-step-requires-4
-    next-step-requires-5
-    next-step-requires-6
-    next-step-requires-7
-    next-step-requires-8
+    (λ c. search needs)
+    (λ c κs. search needs)
+    (λ c κs. search needs)
+    (λ c κs. search needs)
+    (λ c κs. search needs)
+    (λ c κs. search needs)
+    (λ c κs. search needs)
+    (λ c κs. search needs)
+    (λ c κs. search needs)
     returns)

@@ -5,9 +5,6 @@ use Rattle.tns_recursion.specs.Recursion.{reflection}
 use Rattle.tns_recursion.proofs.recursion.reflected.Statement.{statement}
 use Rattle.tns_recursion.proofs.recursion.reflected.Tie as tie
 
-crossed-sum-requires : tie.Need-crossed-sum-requires
-crossed-sum-requires c κs = search needs
-
 returns : tie.Need-returns
 unfolding reflection
 returns c = rw (c .before .if1 .taken, c .before .before .before .crossed-sum .ensures)
@@ -17,4 +14,6 @@ unfolding reflection
 returns-2 c = rw (c .if1 .left, c .before .before .crossed-sum .ensures)
 
 pub reflected-spec : {M : Type 1} → statement M
-reflected-spec = tie.close (tie.spec crossed-sum-requires returns returns-2)
+reflected-spec = tie.close (tie.spec (λ c κs. search needs)
+    returns
+    returns-2)

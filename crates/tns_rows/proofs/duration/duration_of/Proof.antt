@@ -12,11 +12,9 @@ not-zero : (code : ℕ) → (code ≡ 0 → ⊥) → SevenPointFive ≡ duration
 not-zero zero h = absurd (h refl)
 not-zero (suc code) h = refl
 
-returns : tie.Need-returns
-returns c = search needs
-
 returns-2 : tie.Need-returns-2
 returns-2 c = not-zero (c .before .args .code) (c .if1 .left)
 
 pub duration-of-spec : {M : Type 1} → statement M
-duration-of-spec = tie.close (tie.spec returns returns-2)
+duration-of-spec = tie.close (tie.spec (λ c. search needs)
+    returns-2)

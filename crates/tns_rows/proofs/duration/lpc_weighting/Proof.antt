@@ -17,9 +17,6 @@ from : (d : Kept) (nbits : ℕ) → d .weightingLimit ≤ nbits → 0 ≡ weight
 unfolding weightingOf
 from d nbits h = simp (le-ltb _ _ h)
 
-weighting-limit-requires : tie.Need-weighting-limit-requires
-weighting-limit-requires c κs = search needs
-
 returns : tie.Need-returns
 returns c =
     let g = c .before .before .args in
@@ -31,4 +28,6 @@ returns-2 c =
     from (kept (g .duration)) (g .nbits) (omega (arith, c .before .weighting-limit .ensures))
 
 pub lpc-weighting-spec : {M : Type 1} → statement M
-lpc-weighting-spec = tie.close (tie.spec weighting-limit-requires returns returns-2)
+lpc-weighting-spec = tie.close (tie.spec (λ c κs. search needs)
+    returns
+    returns-2)

@@ -17,39 +17,6 @@ above n b h k = omega arith
 past : (table : List (List ℕ)) (bandwidth : ℕ) → length table ≤ bandwidth → bandsOf (replicate 8 0) ≡ bandsOf (getD table bandwidth [])
 past table bandwidth h = sym (ap bandsOf (List·getD-eq-default table [] {n = bandwidth} h))
 
-array-copy-out-bands-of : tie.Need-array-copy-out-bands-of
-array-copy-out-bands-of c = search needs
-
-bands-of-requires : tie.Need-bands-of-requires
-bands-of-requires c κs = search needs
-
-array-copy-out-bands-of-2 : tie.Need-array-copy-out-bands-of-2
-array-copy-out-bands-of-2 c = search needs
-
-bands-of-requires-2 : tie.Need-bands-of-requires-2
-bands-of-requires-2 c κs = search needs
-
-array-copy-out-bands-of-3 : tie.Need-array-copy-out-bands-of-3
-array-copy-out-bands-of-3 c = search needs
-
-bands-of-requires-3 : tie.Need-bands-of-requires-3
-bands-of-requires-3 c κs = search needs
-
-array-copy-out-bands-of-4 : tie.Need-array-copy-out-bands-of-4
-array-copy-out-bands-of-4 c = search needs
-
-bands-of-requires-4 : tie.Need-bands-of-requires-4
-bands-of-requires-4 c κs = search needs
-
-array-copy-out-bands-of-5 : tie.Need-array-copy-out-bands-of-5
-array-copy-out-bands-of-5 c = search needs
-
-bands-of-requires-5 : tie.Need-bands-of-requires-5
-bands-of-requires-5 c κs = search needs
-
-bands-of-requires-6 : tie.Need-bands-of-requires-6
-bands-of-requires-6 c κs = search needs
-
 returns : tie.Need-returns
 returns c =
     let at = c .before .before in
@@ -90,17 +57,17 @@ pub row-in-spec : {M : Type 1} → statement M
 row-in-spec =
     tie.close
     (tie.spec
-    array-copy-out-bands-of
-    bands-of-requires
-    array-copy-out-bands-of-2
-    bands-of-requires-2
-    array-copy-out-bands-of-3
-    bands-of-requires-3
-    array-copy-out-bands-of-4
-    bands-of-requires-4
-    array-copy-out-bands-of-5
-    bands-of-requires-5
-    bands-of-requires-6
+    (λ c. search needs)
+    (λ c κs. search needs)
+    (λ c. search needs)
+    (λ c κs. search needs)
+    (λ c. search needs)
+    (λ c κs. search needs)
+    (λ c. search needs)
+    (λ c κs. search needs)
+    (λ c. search needs)
+    (λ c κs. search needs)
+    (λ c κs. search needs)
     returns
     returns-2
     returns-3

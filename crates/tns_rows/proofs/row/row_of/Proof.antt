@@ -15,18 +15,6 @@ own : (duration known : Duration) (bandwidth : ℕ) → duration ≡ known → b
 unfolding rowOf
 own duration known bandwidth e = rw e
 
-enum-told : tie.Need-enum-told
-enum-told c = search needs
-
-row-in-requires : tie.Need-row-in-requires
-row-in-requires c κs = search needs
-
-enum-told-2 : tie.Need-enum-told-2
-enum-told-2 c = search needs
-
-row-in-requires-2 : tie.Need-row-in-requires-2
-row-in-requires-2 c κs = search needs
-
 returns : tie.Need-returns
 returns c =
     let g = c .before .before .before .args in
@@ -39,4 +27,9 @@ returns-2 c =
 
 pub row-of-spec : {M : Type 1} → statement M
 row-of-spec =
-    tie.close (tie.spec enum-told row-in-requires enum-told-2 row-in-requires-2 returns returns-2)
+    tie.close (tie.spec (λ c. search needs)
+    (λ c κs. search needs)
+    (λ c. search needs)
+    (λ c κs. search needs)
+    returns
+    returns-2)
