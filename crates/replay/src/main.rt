@@ -6,8 +6,7 @@
 //
 // Of each list it writes a line for each record that differs, with the first number that does, and
 // last how many records there are and how many differ. A list that ends inside a record differs
-// there: a word that is not there is expected as 2^64 - 1, which nothing answers. Assumes nothing of
-// the lists.
+// there: a word that is not there is expected as 2^64 - 1, which nothing answers.
 use libc::STDOUT_FILENO;
 use tns::Answer;
 use tns::tns_cost;

@@ -1,5 +1,5 @@
 -- Any two results that a contract allows for one input coincide: the laws of the lower crates, cited for each exported function. What
--- `tns_decode` and `tns_encode` leave in the lists that were lent coincides too. Assumes nothing.
+-- `tns_decode` and `tns_encode` leave in the lists that were lent coincides too.
 use mathlib.Core.List.{List}
 use Prim.Native.Nat.{ℕ}
 use lib.Ieee.{Float}

@@ -1,5 +1,4 @@
 -- What an encode call's verdict leaves in the record and the coefficients.
--- Assumes nothing.
 use mathlib.Core.Path.{_≡_, refl, ap}
 use mathlib.Core.List.{List}
 use Prim.Native.Nat.{ℕ}

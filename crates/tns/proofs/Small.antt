@@ -1,5 +1,4 @@
 -- What an answer holds is small. A place is at most 15. Where the caller's lists hold bytes, each of an answer's four numbers fits its 16 bits.
--- Assumes nothing.
 use mathlib.Core.Bool.{Bool}
 use mathlib.Core.List.{List}
 use Prim.Native.Nat.{ℕ, _^_, _≤_, _<_}

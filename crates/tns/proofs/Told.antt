@@ -1,4 +1,4 @@
--- A refusal is told the same of every call: its numbers and no bits. Assumes nothing.
+-- A refusal is told the same of every call: its numbers and no bits.
 use mathlib.Core.Path.{_≡_, refl}
 use Prim.Native.Nat.{ℕ}
 use Rattle.tns_refusals.specs.Refusals.{numberIn, placeIn, foundIn, says}

@@ -1,4 +1,4 @@
--- How the exported functions tell a verdict: refusal 0 is an accepted call. Assumes nothing.
+-- How the exported functions tell a verdict: refusal 0 is an accepted call.
 use Prim.Native.Nat.{ℕ}
 use Rattle.tns_refusals.specs.Refusals.{Verdict, numberIn, placeIn, foundIn, bitsIn}
 use Rattle.tns.specs.declared.Answer.{Answer}

@@ -1,4 +1,4 @@
--- What an encode call leaves in the caller's record and coefficients. Assumes nothing.
+-- What an encode call leaves in the caller's record and coefficients.
 use mathlib.Core.List.{List}
 use Prim.Native.Nat.{ℕ}
 use lib.Ieee.{Float}

@@ -1,5 +1,5 @@
 -- Any two results that a contract allows for one input coincide: the law of `tns_refusals`, cited for `analyse` and `analyse_frame`. The logic has one NaN, so of a
--- gain or a coefficient that is a NaN the bits are left open. Assumes nothing.
+-- gain or a coefficient that is a NaN the bits are left open.
 use mathlib.Core.List.{List}
 use Prim.Native.Nat.{ℕ}
 use lib.Ieee.{Float}

@@ -1,4 +1,4 @@
--- What the encoder reports is within the limits: orders at most 8, eight indices at most 16 for each filter. Assumes nothing.
+-- What the encoder reports is within the limits: orders at most 8, eight indices at most 16 for each filter.
 use mathlib.Core.Path.{_≡_, refl}
 use mathlib.Core.Bool.{Bool, true, false, cond}
 use mathlib.Core.List.{List}

@@ -1,5 +1,5 @@
 // The analysis of a frame: a filter for each band of its row, analysed and quantized, and what the side
-// data costs. Assumes nothing.
+// data costs.
 use crate::analyse;
 use tns_cost::filter_bits;
 use tns_rows::Band;

@@ -1,6 +1,6 @@
 // The analysis. Here that of one filter: from the lines of a band to the record of gain, damping and
 // on/off, and to eight reflection coefficients, everything in E's order of float operations. In
-// `frame` that of a frame, to its side data. Assumes nothing.
+// `frame` that of a frame, to its side data.
 mod frame;
 
 pub use frame::Found;

@@ -1,4 +1,4 @@
--- Laws of lines that are put one after the other, and that those of 800 records fit 65,536 bytes. Assumes nothing.
+-- Laws of lines that are put one after the other, and that those of 800 records fit 65,536 bytes.
 use mathlib.Core.Path.{_≡_, sym, ap}
 use mathlib.Core.List.{List, [], _++_}
 use Prim.Native.Nat.{ℕ, zero, suc, _+_, _-_, _*_, _≤_}

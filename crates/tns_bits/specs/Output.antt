@@ -1,4 +1,4 @@
--- Document 01, "The program reads 20-byte records": one line each, in order, numbered on. Assumes nothing.
+-- Document 01, "The program reads 20-byte records": one line each, in order, numbered on.
 use mathlib.Core.List.{List, [], _++_}
 use Prim.Native.Nat.{ℕ, zero, suc, _+_, _*_}
 use lib.ListN.{take, drop}

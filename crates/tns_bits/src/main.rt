@@ -1,7 +1,7 @@
 // Reads 20-byte records of side data from standard input until it ends, and writes a line for each:
 // the bits that it costs, or why it is refused. The lines of the records read are proved to be those
 // of document 01; that they are read and written is tested. What was read before input ends or fails
-// is answered. Assumes nothing.
+// is answered.
 use tns_program::Read;
 use tns_program::keep;
 use tns_program::read_after;

@@ -1,5 +1,5 @@
 -- Laws of the cost that callers use in place of its text: a filter within the limits costs at most 84 bits, two of them at most 168, and every
--- sum on the way is below 2 ^ 24. Each rests on a law of the tables. Assumes nothing.
+-- sum on the way is below 2 ^ 24. Each rests on a law of the tables.
 use mathlib.Core.Path.{_≡_}
 use mathlib.Core.List.{List, [], _∷_}
 use Prim.Native.Nat.{ℕ, zero, suc, _+_, _*_, _^_, _≤_, _<_}

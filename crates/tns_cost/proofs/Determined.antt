@@ -1,5 +1,4 @@
 -- Any two results that a contract allows for one input coincide: the law of `tns_refusals`, cited for each public function of this crate.
--- Assumes nothing.
 use mathlib.Core.Path.{_≡_, refl, ap}
 use Rattle.tns_refusals.proofs.Determined.{Determined, coincide, itself, answerBack, refused-back}
 use Rattle.tns_cost.specs.Cost.{costSays}

@@ -1,5 +1,4 @@
 -- Document 01, "Cost": what the side data of a frame costs in bits, and the answer of the cost call.
--- Assumes nothing.
 use mathlib.Core.List.{List, [], _∷_}
 use Prim.Native.Nat.{ℕ, zero, suc, _+_, _/_}
 use lib.Dec.{ltb}

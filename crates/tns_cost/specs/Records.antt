@@ -1,5 +1,4 @@
 -- Document 01, "The program reads 20-byte records": weighting, filter count, two orders, sixteen indices.
--- Assumes nothing.
 use mathlib.Core.Bool.{cond}
 use mathlib.Core.List.{List}
 use Prim.Native.Nat.{ℕ}

@@ -1,5 +1,5 @@
 // The cost of side data in bits: E's `calc_bit_budget` in whole numbers, and the door that checks its
-// input first. Assumes nothing.
+// input first.
 use tns_refusals::Refusal;
 use tns_refusals::SideAnswer;
 use tns_refusals::check_side;

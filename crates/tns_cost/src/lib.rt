@@ -1,5 +1,5 @@
 // What side data costs in bits: of one filter, of a frame, and of a 20-byte record. It rests on the
-// contracts of the tables alone, and knows nothing of frames. Assumes nothing.
+// contracts of the tables alone, and knows nothing of frames.
 mod budget;
 mod record;
 

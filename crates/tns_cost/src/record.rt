@@ -1,5 +1,5 @@
 // Side data as the 20 bytes of the bits program: weighting, filter count, two orders, sixteen
-// indices. Assumes nothing.
+// indices.
 use crate::budget::CostAnswer;
 use crate::budget::cost;
 ghost use mathlib.Core.Path.{_≡_};

@@ -1,5 +1,4 @@
 -- Laws of the decoder's checks: what a refusal of the frame or of the side data makes of the call, and what is known once neither is refused.
--- Assumes nothing.
 use mathlib.Core.Path.{_≡_, refl, sym, _∙_}
 use mathlib.Core.List.{List}
 use Prim.Native.Nat.{ℕ}

@@ -1,5 +1,5 @@
 -- Any two results that a contract allows for one input coincide: the law of `tns_refusals`, cited for `decode`, and with it what is left in the
--- lines that were lent. The logic has one NaN, so of a line that is a NaN the bits are left open. Assumes nothing.
+-- lines that were lent. The logic has one NaN, so of a line that is a NaN the bits are left open.
 use mathlib.Core.Path.{_≡_, refl}
 use mathlib.Core.List.{List}
 use lib.Ieee.{Float}

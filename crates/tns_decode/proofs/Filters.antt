@@ -1,5 +1,4 @@
 -- What none, one and two counted filters make of a spectrum, from the definition of counted filters on their bands.
--- Assumes nothing.
 use mathlib.Core.Path.{_≡_, refl, sym, _∙_, ap}
 use mathlib.Core.List.{List, map}
 use Prim.Native.Nat.{ℕ, zero, suc, _≤_}

@@ -1,5 +1,5 @@
 -- Document 01, "Lattices": a count of 2 on a one-band row acts once. It leaves what a count of 1 does, whatever the second filter's order and
--- indices. Assumes nothing.
+-- indices.
 use mathlib.Core.Path.{_≡_, refl, sym, _∙_, ap}
 use mathlib.Core.List.{List, map}
 use Prim.Native.Nat.{ℕ}

@@ -1,6 +1,5 @@
 -- Document 01, "Band rows": lines outside the bands never change and affect nothing. The laws are of the decode call's spectrum, for every call,
 -- and stand at the end; a refused call changes no line at all.
--- Assumes nothing.
 use mathlib.Core.Path.{_≡_, refl, sym, _∙_, ap, subst}
 use mathlib.Core.Logic.{⊎-swap}
 use mathlib.Core.List.{List, [], map}

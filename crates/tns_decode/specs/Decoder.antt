@@ -1,4 +1,4 @@
--- The decode call: its answer, and the spectrum after it. Assumes nothing.
+-- The decode call: its answer, and the spectrum after it.
 use mathlib.Core.List.{List, [], _∷_, map}
 use Prim.Native.Nat.{ℕ, zero, suc}
 use lib.ListN.{getD, take, drop, length}

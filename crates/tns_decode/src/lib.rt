@@ -1,5 +1,5 @@
 // The decode call: it checks a frame and its side data, and undoes the encoder's filter over the bands
-// in the caller's own spectrum. Assumes nothing.
+// in the caller's own spectrum.
 use tns_frames::FrameAnswer;
 use tns_frames::check_frame;
 use tns_index::coefficient_of;

@@ -1,5 +1,4 @@
 -- Laws of the encoder's frames: a row's cuts lie inside its bands, from one computed test, and what a refused and an accepted frame make of the call.
--- Assumes nothing.
 use mathlib.Core.Path.{_≡_, refl, _∙_}
 use mathlib.Core.Bool.{Bool, true, _&&_}
 use mathlib.Core.List.{List, []}

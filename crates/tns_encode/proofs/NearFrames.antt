@@ -1,4 +1,4 @@
--- Demand 3 of the filters that the encoder finds: their coefficients are the table's. Assumes nothing.
+-- Demand 3 of the filters that the encoder finds: their coefficients are the table's.
 use mathlib.Core.Bool.{Bool, true, false, cond}
 use mathlib.Core.List.{List}
 use Prim.Native.Nat.{ℕ}

@@ -1,5 +1,5 @@
 -- Document 01, "Band rows": lines outside the bands never change and affect nothing. The laws are of the encode call's spectrum and side data, for
--- every call, and stand at the end; a refused call changes no line at all. Assumes nothing.
+-- every call, and stand at the end; a refused call changes no line at all.
 use mathlib.Core.Path.{_≡_, refl, sym, _∙_, ap}
 use mathlib.Core.Bool.{Bool}
 use mathlib.Core.List.{List}

@@ -1,5 +1,4 @@
 -- What the encoder reports is sound: the decoder's checks of side data and the cost door accept it, and the bits reported are the cost door's.
--- Assumes nothing.
 use mathlib.Core.Path.{_≡_, refl, _∙_}
 use mathlib.Core.Bool.{Bool, true, false, cond}
 use mathlib.Core.List.{List, [], _∷_, _++_, map}

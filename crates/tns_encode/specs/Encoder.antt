@@ -1,4 +1,4 @@
--- The encode call: its answer, the side data beside it, and the spectrum after it. Assumes nothing.
+-- The encode call: its answer, the side data beside it, and the spectrum after it.
 use mathlib.Core.Bool.{Bool}
 use mathlib.Core.List.{List}
 use Prim.Native.Nat.{ℕ}

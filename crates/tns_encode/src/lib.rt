@@ -1,5 +1,5 @@
 // The encode call: it checks a frame, has it analysed, and filters its bands in the caller's own
-// spectrum. Assumes nothing.
+// spectrum.
 use tns_analysis::analyse_frame;
 use tns_frames::FrameAnswer;
 use tns_frames::check_frame;

@@ -1,4 +1,4 @@
--- Demand 3 over any two filters whose coefficients are the table's, with the states carried from band to band. Assumes nothing.
+-- Demand 3 over any two filters whose coefficients are the table's, with the states carried from band to band.
 use mathlib.Core.Path.{_≡_, refl, sym, ap, _∙_, subst}
 use mathlib.Core.List.{List, map}
 use Prim.Native.Nat.{ℕ, suc, _+_, _-_, _^_, _≤_, _<_}

@@ -1,6 +1,6 @@
 -- The f32 lattice beside the exact one: what a stage, a line and the lines of a band are off by. One law over the stage number, which holds for
 -- every order and for both filters, and one over the lines.
--- Lines of at most 2^(h+23) units of 2^-149, with h = m + 126, are off by at most k·2^k·2^h halves of a unit when k stages are done. Assumes nothing.
+-- Lines of at most 2^(h+23) units of 2^-149, with h = m + 126, are off by at most k·2^k·2^h halves of a unit when k stages are done.
 use mathlib.Core.Path.{_≡_, refl, sym, ap, _∙_, subst}
 use mathlib.Core.Bool.{false}
 use mathlib.Core.List.{List, [], _∷_, map}

@@ -2,7 +2,6 @@
 -- the encoder leaves to it.
 -- Lines count units of 2^-149, coefficients 2^-26, results 2^-357. A product with a coefficient counts units 2^26 times finer than its other
 -- factor, so what it is added to is first told in those. So t and b count units of 2^-(149+26k) when k stages are done, and state k always does.
--- Assumes nothing.
 use mathlib.Core.Path.{_≡_}
 use mathlib.Core.List.{List, map}
 use Prim.Native.Nat.{ℕ, zero, suc, _-_, _*_, _^_, _≤_, _<_}

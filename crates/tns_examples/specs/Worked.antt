@@ -1,6 +1,6 @@
 -- Demand 3 worked on a frame, computed by the checker from the definitions: a call of the oracle's list (7.5 ms, bandwidth 3, 2953 bits, 240
 -- lines). The side data and the filtered lines are those that the Rust gave for it. The exact lines are those of oracle/example_error.py, a
--- calculation of its own. Shown are lines at the seam of the bands, where the states carry over, and at the end. Assumes nothing.
+-- calculation of its own. Shown are lines at the seam of the bands, where the states carry over, and at the end.
 use mathlib.Core.Path.{_≡_, refl}
 use mathlib.Core.Bool.{false}
 use mathlib.Core.List.{List, [], _∷_, _++_, map}

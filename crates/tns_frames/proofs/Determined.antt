@@ -1,6 +1,5 @@
 -- Any two results that a contract allows for one input coincide: the law of `tns_refusals`, cited for each public function of this crate. What
 -- `band_lines` hands back is a reference: any two have one place and hold the same lines, and the ghost name that a borrow has is open.
--- Assumes nothing.
 use mathlib.Core.Path.{_≡_, refl}
 use contract.Lifetimes.{Lfts}
 use denote.Ref.{ptr, now}

@@ -1,4 +1,4 @@
--- Laws of a frame that checks 1 to 3 find no fault with: its row is the table's, and the bands lie within its lines. Assumes nothing.
+-- Laws of a frame that checks 1 to 3 find no fault with: its row is the table's, and the bands lie within its lines.
 use mathlib.Core.Path.{_≡_, refl}
 use mathlib.Core.Bool.{Bool, true, false, _||_}
 use Prim.Native.Nat.{ℕ, zero, suc, _≤_}

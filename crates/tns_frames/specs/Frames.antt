@@ -1,4 +1,4 @@
--- Document 01, "Refusal numbers" and "Band rows": checks 1 to 3 of a frame, and the band that a caller asks for. Assumes nothing.
+-- Document 01, "Refusal numbers" and "Band rows": checks 1 to 3 of a frame, and the band that a caller asks for.
 use mathlib.Core.Bool.{_||_}
 use Prim.Native.Nat.{ℕ, _+_, _-_, _*_}
 use lib.Dec.{ltb}

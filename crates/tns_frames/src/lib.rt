@@ -1,5 +1,5 @@
 // The frames of encode and decode: checks 1 to 3, and the part of a caller's own spectrum that a band
-// is. Assumes nothing.
+// is.
 use tns_refusals::Refusal;
 use tns_rows::Band;
 use tns_rows::Duration;

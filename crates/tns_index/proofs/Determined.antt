@@ -1,5 +1,5 @@
 -- Any two results that a contract allows for one input coincide: the law of `tns_refusals`, cited for each public function of this crate. Only
--- `coefficient_of` has a float for its result, and no coefficient is a NaN. Assumes nothing.
+-- `coefficient_of` has a float for its result, and no coefficient is a NaN.
 use Rattle.tns_refusals.proofs.Determined.{Determined, itself}
 use Rattle.tns_index.proofs.coefficient_of.Kinds as coefficient-of-kinds
 use Rattle.tns_index.proofs.coefficient_of.Reads as coefficient-of-reads

@@ -1,4 +1,4 @@
--- Every coefficient is a whole number of 2^-26 and at most 1 in size: one test over the table, and the coefficient past it. Assumes nothing.
+-- Every coefficient is a whole number of 2^-26 and at most 1 in size: one test over the table, and the coefficient past it.
 use mathlib.Core.Path.{_≡_, refl, sym, subst}
 use mathlib.Core.Bool.{true}
 use Prim.Native.Nat.{ℕ}

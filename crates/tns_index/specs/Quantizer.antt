@@ -1,5 +1,5 @@
 -- Document 01, "Index and coefficient": the two tables of f32, the index of a number, the coefficient of an index, the order of a filter's indices.
--- Both tables come from a sweep of the Rust over every f32 from -1 to 1 (oracle/RESULTS.txt). They are written as bit patterns. Assumes nothing.
+-- Both tables come from a sweep of the Rust over every f32 from -1 to 1 (oracle/RESULTS.txt). They are written as bit patterns.
 use mathlib.Core.Bool.{_&&_, cond}
 use mathlib.Core.List.{List, [], _∷_, map}
 use Prim.Native.Nat.{ℕ, suc, _+_, _-_}

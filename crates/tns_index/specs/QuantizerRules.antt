@@ -1,5 +1,4 @@
 -- The rules of the coefficients and the thresholds, each one test that the checker computes over a whole table.
--- Assumes nothing.
 use mathlib.Core.Path.{_≡_, refl}
 use mathlib.Core.Bool.{Bool, true, false, _&&_}
 use mathlib.Core.List.{List, [], _∷_, map, reverse}

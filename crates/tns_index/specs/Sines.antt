@@ -5,7 +5,7 @@
 -- half-way points below and above each coefficient it changes its sign. These 17 intervals do not meet and stand in the order of the table, so each
 -- holds the one root of its place, and no f32 is nearer to that root. In the same way cos 17θ / cos θ is a polynomial of degree 16 in s and even in
 -- s, with the roots ± sin ((k - 1/2) π / 17), k from 1 to 8: it changes its sign between the f32s two below and two above each threshold.
--- All of it is about whole numbers. Assumes nothing.
+-- All of it is about whole numbers.
 use mathlib.Core.Path.{_≡_, refl}
 use mathlib.Core.Bool.{Bool, true, false, cond}
 use mathlib.Core.List.{map}

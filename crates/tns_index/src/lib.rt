@@ -1,6 +1,6 @@
 // The index of a number, the coefficient of an index and the order of a filter's eight indices:
 // what `apply_quantization` does in E, with tables in the place of sine and arcsine. Both tables
-// come from a sweep of the Rust (oracle/RESULTS.txt). Assumes nothing.
+// come from a sweep of the Rust (oracle/RESULTS.txt).
 ghost use mathlib.Core.Path.{_≡_};
 ghost use Rattle.tns_index.specs.Quantizer.{indexOf, coefficientOf, orderOf, notAbove, thresholds};
 

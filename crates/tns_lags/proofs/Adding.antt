@@ -1,5 +1,4 @@
 -- What a line adds to the nine sums of a subband, and how the sums grow to those of the whole subband.
--- Assumes nothing.
 use mathlib.Core.Path.{_≡_, refl, _∙_, ap}
 use mathlib.Core.List.{List}
 use Prim.Native.Nat.{ℕ, suc, _+_, _-_, _≤_, _<_, min}

@@ -1,4 +1,4 @@
--- The lags from the sums of three subbands are the lags of the subbands. Assumes nothing.
+-- The lags from the sums of three subbands are the lags of the subbands.
 use mathlib.Core.Path.{_≡_, _∙_, ap}
 use mathlib.Core.List.{List}
 use Prim.Native.Nat.{ℕ, _<_}

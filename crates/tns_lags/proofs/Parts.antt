@@ -1,4 +1,4 @@
--- The part of a list from a start to a stop is the same where both are cut at the list's end. Assumes nothing.
+-- The part of a list from a start to a stop is the same where both are cut at the list's end.
 use mathlib.Core.Path.{_≡_, sym, _∙_, ap}
 use mathlib.Core.List.{List, []}
 use Prim.Native.Nat.{ℕ, _-_, _≤_, _<_, min}

@@ -1,5 +1,4 @@
 -- What the contracts of inner functions cite: the sums of a subband on the way, and a lag from its sums. No public promise rests on these names.
--- Assumes nothing.
 use mathlib.Core.Bool.{Bool, cond}
 use mathlib.Core.List.{List}
 use Prim.Native.Nat.{ℕ, _+_, _-_, min}

@@ -1,6 +1,5 @@
 // The autocorrelation of a band at lags 0 to 8. The nine sums of a subband are made side by side in
 // one pass: each is added up in line order, as the definition has it, and lag 0 is the energy.
-// Assumes nothing.
 use tns_rows::Band;
 ghost use mathlib.Core.Path.{_≡_};
 ghost use Prim.Native.Nat.{_+_, _-_, _<_, _≤_, min};

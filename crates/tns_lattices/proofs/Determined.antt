@@ -1,5 +1,5 @@
 -- Any two results that a contract allows for one input coincide: the law of `tns_refusals`, cited for each public function of this crate, and with
--- it what is left in the lines that were lent. The logic has one NaN, so of a number that is a NaN the bits are left open. Assumes nothing.
+-- it what is left in the lines that were lent. The logic has one NaN, so of a number that is a NaN the bits are left open.
 use mathlib.Core.List.{List}
 use lib.Ieee.{Float}
 use Rattle.tns_refusals.proofs.Determined.{DeterminedWith, itself}

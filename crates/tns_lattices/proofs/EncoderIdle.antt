@@ -1,4 +1,4 @@
--- The encoder's filter of order 0 in its band. Assumes nothing.
+-- The encoder's filter of order 0 in its band.
 use mathlib.Core.Path.{_≡_, refl}
 use mathlib.Core.List.{List}
 use Prim.Native.Nat.{_≤_}

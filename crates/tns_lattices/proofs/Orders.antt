@@ -1,4 +1,4 @@
--- An order that is none of 0 to 7 is 8 or more: what the last arm of a `match` on an order knows. Assumes nothing.
+-- An order that is none of 0 to 7 is 8 or more: what the last arm of a `match` on an order knows.
 use mathlib.Core.Path.{_≡_}
 use Prim.Native.Nat.{ℕ, suc, _≤_, zero-le, min}
 use native.Mathlib.Omega.{arith}

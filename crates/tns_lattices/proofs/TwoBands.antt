@@ -1,4 +1,4 @@
--- Laws of the encoder's two filters in a row whose bands are apart: each band's lines, and the lines outside both, afterwards. Assumes nothing.
+-- Laws of the encoder's two filters in a row whose bands are apart: each band's lines, and the lines outside both, afterwards.
 use mathlib.Core.Path.{_≡_, refl, sym, _∙_, ap, subst}
 use mathlib.Core.Logic.{⊎-swap}
 use mathlib.Core.List.{List}

@@ -1,5 +1,5 @@
 -- Document 01, "Lattices", the decoder's: one line, and the lines of a band, with eight states carried from line to line. Every product, sum and
--- difference is an f32's and rounds once. Assumes nothing.
+-- difference is an f32's and rounds once.
 use mathlib.Core.List.{List}
 use Prim.Native.Nat.{ℕ, zero, suc}
 use lib.ListN.{getD, set}

@@ -1,5 +1,5 @@
 -- Document 01, "Lattices", the encoder's: one line, and the lines of a band, with eight states carried from line to line. Every product and sum is
--- an f32's and rounds once. Assumes nothing.
+-- an f32's and rounds once.
 use mathlib.Core.List.{List}
 use Prim.Native.Nat.{ℕ, zero, suc}
 use lib.ListN.{getD, set}

@@ -1,4 +1,4 @@
--- Document 01, "Lattices": the states before the first line. Assumes nothing.
+-- Document 01, "Lattices": the states before the first line.
 use mathlib.Core.List.{List}
 use lib.ListN.{replicate}
 use lib.Ieee.{Float, ofBits, binary32}

@@ -1,5 +1,4 @@
 -- Document 01, "Lattices": what the encoder's two filters make of a spectrum, each in its band, the states carried from the first to the second.
--- Assumes nothing.
 use mathlib.Core.List.{List}
 use Prim.Native.Nat.{ℕ}
 use lib.Ieee.{Float}

@@ -1,5 +1,5 @@
 // The encoder's lattice in E's order of operations: each product and sum rounds once and none is
-// fused. The states go in and come back by value. Assumes nothing.
+// fused. The states go in and come back by value.
 use crate::Passed;
 ghost use mathlib.Core.Path.{_≡_};
 ghost use Prim.Native.Nat.{_<_, _≤_, min};

@@ -1,5 +1,5 @@
 // Both lattices, the decoder's and the encoder's, on the lines of one band. They know nothing of side
-// data: coefficients, an order and eight states go in, and the states come back. Assumes nothing.
+// data: coefficients, an order and eight states go in, and the states come back.
 mod decoder;
 mod encoder;
 

@@ -1,4 +1,4 @@
--- Laws of tests over lists, and of a list's default: inside a list it is not read. Assumes nothing.
+-- Laws of tests over lists, and of a list's default: inside a list it is not read.
 use mathlib.Core.Path.{_≡_, refl}
 use mathlib.Core.Bool.{Bool, true, false, _&&_}
 use mathlib.Core.List.{List, [], _∷_}

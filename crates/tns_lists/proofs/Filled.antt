@@ -1,5 +1,4 @@
 -- The laws of a loop that fills an array with a function of another list's members: one place more, and all of them.
--- Assumes nothing.
 use mathlib.Core.Path.{_≡_, sym, _∙_, ap}
 use mathlib.Core.List.{List, [], _∷_, map, map-append}
 use Prim.Native.Nat.{ℕ, _+_, _<_, _≤_}

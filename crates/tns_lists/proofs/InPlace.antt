@@ -1,5 +1,4 @@
 -- The laws of a loop that takes lines upwards in place: one line more, and none left. One proof for every lattice.
--- Assumes nothing.
 use mathlib.Core.Path.{_≡_, refl, ap}
 use mathlib.Core.List.{List, [], _∷_, _++_, append-assoc, append-nil}
 use Prim.Native.Nat.{ℕ, suc, _+_, _<_, _≤_}

@@ -1,4 +1,4 @@
--- The laws of a loop that writes lists one after the other into an array, for any kind of element. Assumes nothing.
+-- The laws of a loop that writes lists one after the other into an array, for any kind of element.
 use mathlib.Core.Path.{_≡_, sym, _∙_, ap}
 use mathlib.Core.List.{List, _++_}
 use Prim.Native.Nat.{ℕ, _+_, _-_, _<_}

@@ -1,5 +1,4 @@
 -- Laws of lists that are written place by place, `tab`, and of arrays that a loop fills.
--- Assumes nothing.
 use mathlib.Core.Path.{_≡_, refl, sym, _∙_}
 use mathlib.Core.List.{List, [], _∷_}
 use Prim.Native.Nat.{ℕ, zero, suc, _+_, _<_}

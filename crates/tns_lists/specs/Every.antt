@@ -1,4 +1,4 @@
--- A test that is computed over a whole list, as the rules of a table are. Assumes nothing.
+-- A test that is computed over a whole list, as the rules of a table are.
 use mathlib.Core.Bool.{Bool, true, _&&_}
 use mathlib.Core.List.{List, [], _∷_}
 

@@ -1,5 +1,5 @@
 -- Lines taken upwards, in place, with a state carried from line to line. What is done to one line is a parameter: what it becomes, and the state
--- after it. Assumes nothing.
+-- after it.
 use mathlib.Core.List.{List, [], _∷_}
 
 unfoldable pub linesThrough : {A S : Type 0} → (S → A → A) → (S → A → S) → S → List A → List A

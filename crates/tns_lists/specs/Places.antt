@@ -1,4 +1,4 @@
--- Lists of f32s place by place: the number at a place, and a list that is written by what stands at each. Assumes nothing.
+-- Lists of f32s place by place: the number at a place, and a list that is written by what stands at each.
 use mathlib.Core.List.{List, [], _∷_, _++_}
 use Prim.Native.Nat.{ℕ, zero, suc}
 use lib.ListN.{getD}

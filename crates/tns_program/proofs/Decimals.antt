@@ -1,4 +1,4 @@
--- The digits that `io::decimal` writes are the decimal of the definition, which has twenty at most. Assumes nothing.
+-- The digits that `io::decimal` writes are the decimal of the definition, which has twenty at most.
 use mathlib.Core.Path.{_≡_, ap, _∙_, subst}
 use mathlib.Core.Bool.{Bool, true, false, cond}
 use mathlib.Core.List.{List, [], _∷_, _++_}

@@ -1,4 +1,4 @@
--- Laws of a text that is put after others, piece by piece, and of a piece whose end is read anew. Assumes nothing.
+-- Laws of a text that is put after others, piece by piece, and of a piece whose end is read anew.
 use mathlib.Core.Path.{_≡_, refl, sym, ap, _∙_}
 use mathlib.Core.List.{List, [], _∷_, _++_, append-assoc}
 use Prim.Native.Nat.{ℕ, zero, suc, _+_, _-_, _≤_, min}

@@ -1,4 +1,4 @@
--- What a read into a piece gives. Assumes nothing.
+-- What a read into a piece gives.
 use Prim.Native.Nat.{ℕ, _+_, _≤_, _<_}
 use Rattle.tns_program.specs.declared.streams.Read.{Read}
 use Rattle.tns_program.specs.declared.streams.Read.the-variants.{Bytes, End, Failed}

@@ -1,4 +1,4 @@
--- Text in ASCII. Assumes nothing.
+-- Text in ASCII.
 use mathlib.Core.Bool.{cond}
 use mathlib.Core.List.{List, [], _∷_, _++_}
 use Prim.Native.Nat.{ℕ, zero, suc, _+_, _/_, _%_}

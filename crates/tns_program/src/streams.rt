@@ -1,4 +1,4 @@
-// Standard input and output in large pieces. Assumes nothing.
+// Standard input and output in large pieces.
 use libc::STDIN_FILENO;
 use libc::STDOUT_FILENO;
 ghost use mathlib.Core.Path.{_≡_};

@@ -1,4 +1,4 @@
-// Text in ASCII, put piece by piece into a slice that is written as a whole. Assumes nothing.
+// Text in ASCII, put piece by piece into a slice that is written as a whole.
 ghost use mathlib.Core.Path.{_≡_};
 ghost use Prim.Native.Nat.{min};
 ghost use lib.ListN.{length, take};

@@ -1,6 +1,5 @@
 -- Any two results that a contract allows for one input coincide: the law of `tns_refusals`, cited for each public function of this crate.
 -- The logic has one NaN, so of a number that is a NaN the bits are left open.
--- Assumes nothing.
 use Rattle.tns_refusals.proofs.Determined.{Determined, itself}
 use Rattle.tns_recursion.proofs.recursion.predict.Kinds as predict-kinds
 use Rattle.tns_recursion.proofs.recursion.predict.Reads as predict-reads

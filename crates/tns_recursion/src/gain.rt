@@ -1,4 +1,4 @@
-// Gain, damping and the on/off answer of a filter. Assumes nothing.
+// Gain, damping and the on/off answer of a filter.
 ghost use mathlib.Core.Path.{_≡_};
 ghost use Rattle.tns_recursion.specs.Gain.{gainOf, isOn, dampingOf, gainRecord};
 

@@ -1,5 +1,5 @@
 // From the lags of a band to a predictor of order 8 and the error that it leaves, and from these to the
-// record of gain, damping and on/off. Everything in E's order of float operations. Assumes nothing.
+// record of gain, damping and on/off. Everything in E's order of float operations.
 mod gain;
 mod recursion;
 

@@ -1,5 +1,5 @@
 // The recursion to order 8 (Levinson and Durbin's), E's operations in E's order. A row of nine goes in
-// by value and the next comes back. Assumes nothing.
+// by value and the next comes back.
 ghost use mathlib.Core.Path.{_≡_};
 ghost use Prim.Native.Nat.{_<_, _≤_};
 ghost use Rattle.tns_recursion.specs.Recursion.{crossed, reflection, nextRow, stepped, predicted};

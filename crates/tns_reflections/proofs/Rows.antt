@@ -1,4 +1,4 @@
--- The rows of the step-down on the way: what each place holds once the places below a limit have been written. Assumes nothing.
+-- The rows of the step-down on the way: what each place holds once the places below a limit have been written.
 use mathlib.Core.Path.{_≡_}
 use mathlib.Core.Bool.{false, _&&_, cond}
 use mathlib.Core.List.{List}

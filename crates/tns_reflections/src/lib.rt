@@ -1,5 +1,4 @@
 // Damped coefficients, and the step-down to reflection coefficients, E's operations in E's order.
-// Assumes nothing.
 ghost use mathlib.Core.Path.{_≡_};
 ghost use Prim.Native.Nat.{_<_, _≤_};
 ghost use Rattle.tns_reflections.specs.Reflections.{power, damped, rowBelow, reflections};

@@ -1,5 +1,4 @@
 -- One law over everything that checks can say: what holds of each refusal that they can give, and of what follows them, holds of their answer.
--- Assumes nothing.
 use mathlib.Core.Path.{_≡_, refl, subst}
 use mathlib.Core.Bool.{Bool, true, false, _||_, not, cond}
 use mathlib.Core.List.{List, [], _∷_}

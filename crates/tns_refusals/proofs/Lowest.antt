@@ -1,4 +1,4 @@
--- The search for the lowest number over a limit, from a place on: what one more place makes of it. Assumes nothing.
+-- The search for the lowest number over a limit, from a place on: what one more place makes of it.
 use mathlib.Core.Path.{_≡_, refl, sym, _∙_, ap, subst}
 use mathlib.Core.Bool.{Bool, true, false}
 use mathlib.Core.List.{List, []}

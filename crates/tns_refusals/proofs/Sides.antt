@@ -1,5 +1,4 @@
 -- Laws of the shared checks 4 to 7: what they leave to the checks after them, and what is known once they find no fault.
--- Assumes nothing.
 use mathlib.Core.Path.{_≡_, refl, sym, _∙_, ap}
 use mathlib.Core.Bool.{Bool, true, false, _||_, not, cond}
 use mathlib.Core.List.{List, [], _∷_}

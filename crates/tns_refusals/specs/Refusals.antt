@@ -1,5 +1,4 @@
 -- Document 01, "Refusal numbers": what a call answers, in the paper's numbers, and the checks that decide 4 to 7.
--- Assumes nothing.
 use mathlib.Core.Path.{_≡_}
 use mathlib.Core.Bool.{Bool, true, false, _||_, not, cond}
 use mathlib.Core.List.{List, [], _∷_}

@@ -1,5 +1,5 @@
 // The refusals of document 01, for every call of the library, and the one place that decides 4 to 7,
-// for decode and cost. Assumes nothing.
+// for decode and cost.
 ghost use mathlib.Core.Path.{_≡_};
 ghost use mathlib.Core.Bool.{false};
 ghost use Rattle.tns_refusals.specs.Refusals.{noFault, says, numberIn, placeIn, foundIn, lowestOver, isNowhere, sideChecks, sideSays};

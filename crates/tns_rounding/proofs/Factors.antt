@@ -1,4 +1,4 @@
--- Factors that a lattice multiplies by: whole numbers of 2^-26, of at most 1 in size. Assumes nothing.
+-- Factors that a lattice multiplies by: whole numbers of 2^-26, of at most 1 in size.
 use mathlib.Core.Path.{_≡_, refl, sym, ap, _∙_}
 use mathlib.Core.Bool.{Bool, true, false, _&&_}
 use Prim.Native.Nat.{ℕ, _+_, _*_, _/_, _%_, _^_, _≤_}

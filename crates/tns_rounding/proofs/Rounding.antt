@@ -1,5 +1,5 @@
 -- The rounding law: how far `round` moves a fraction, and how large its result can be. A fraction of at most 2^j units of 2^-149 moves by
--- at most half of 2^(j-24) units, or of one unit where that is less, and its result is at most 2^j units. Assumes nothing.
+-- at most half of 2^(j-24) units, or of one unit where that is less, and its result is at most 2^j units.
 use mathlib.Core.Path.{_≡_, refl, sym, ap, _∙_, subst}
 use mathlib.Core.Logic.{inl, inr}
 use mathlib.Core.Bool.{Bool, true, false, not}

@@ -1,5 +1,5 @@
 -- What the words of `specs/Units` come to: an f32 that is finite is a whole number of units, one that is at most 2^m starts to be tracked, and
--- one that is tracked is within its bound. Assumes nothing.
+-- one that is tracked is within its bound.
 use mathlib.Core.Path.{_≡_, refl, sym, ap, _∙_, subst}
 use mathlib.Core.Bool.{Bool, true, false, _&&_}
 use Prim.Native.Nat.{ℕ, zero, suc, _+_, _-_, _*_, _/_, _%_, _^_, _≤_, _<_}

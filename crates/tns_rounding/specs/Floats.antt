@@ -1,4 +1,4 @@
--- f32 arithmetic as the definitions write it: two numbers that they name, and the four operations, each of which rounds once. Assumes nothing.
+-- f32 arithmetic as the definitions write it: two numbers that they name, and the four operations, each of which rounds once.
 use lib.Ieee.{Float, add, sub, mul, div, binary32, ofBits}
 
 abbrev pub f0 : Float

@@ -1,4 +1,4 @@
--- An f32 as a whole number of small units. Assumes nothing.
+-- An f32 as a whole number of small units.
 use Prim.Native.Nat.{ℕ, _+_, _*_, _/_, _^_, _≤_}
 use mathlib.Core.Bool.{Bool, true, false, cond}
 use lib.Dec.{T}

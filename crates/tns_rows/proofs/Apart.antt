@@ -1,6 +1,5 @@
 -- Laws of a change within one band, whatever it is: places outside the band keep their lines, and bands apart from it theirs. The bands of a row
 -- are apart, and none reaches before the duration's first line or past the row's last stop: one test over the rows of both durations.
--- Assumes nothing.
 use mathlib.Core.Path.{_≡_, refl, sym, _∙_, ap, subst}
 use mathlib.Core.Logic.{_⊎_, inl, inr, ⊎-elim}
 use mathlib.Core.Bool.{Bool, true, false, _&&_, _||_}

@@ -1,5 +1,5 @@
 -- Laws of the bands of a row: they are in order, which one computed test says of the rows of both durations, and a spectrum is what lies before,
--- in and after a band. Assumes nothing.
+-- in and after a band.
 use mathlib.Core.Path.{_≡_, refl, sym, _∙_, ap}
 use mathlib.Core.Bool.{Bool, true, _&&_}
 use mathlib.Core.List.{List, [], _++_}

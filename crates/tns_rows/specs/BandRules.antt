@@ -1,5 +1,4 @@
 -- The rules of the band rows, one test that the checker computes over all rows of both durations.
--- Assumes nothing.
 use mathlib.Core.Path.{_≡_, refl}
 use mathlib.Core.Bool.{Bool, true, _&&_, _||_}
 use mathlib.Core.List.{List}

@@ -1,5 +1,4 @@
-// The two frame durations. Each keeps its own numbers as associated constants of its type. Assumes
-// nothing.
+// The two frame durations. Each keeps its own numbers as associated constants of its type.
 ghost use mathlib.Core.Path.{_≡_};
 ghost use Rattle.tns_rows.specs.Durations.{kept, durationOf, weightingOf};
 

@@ -1,5 +1,5 @@
 // The layer that knows durations and band rows: what each duration keeps as its own, and where the
-// bands of a row lie. It knows no float arithmetic and refuses nothing. Assumes nothing.
+// bands of a row lie. It knows no float arithmetic and refuses nothing.
 mod duration;
 mod row;
 

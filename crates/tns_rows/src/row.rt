@@ -1,4 +1,4 @@
-// The band rows: where the lines of each filter lie, for each duration and bandwidth. Assumes nothing.
+// The band rows: where the lines of each filter lie, for each duration and bandwidth.
 use crate::duration::Duration;
 use crate::duration::SevenPointFiveMs;
 use crate::duration::TenMs;

@@ -1,6 +1,5 @@
 -- Any two results that a contract allows for one input coincide: the law of `tns_refusals`, cited for each public function of this crate.
 -- Only coefficients are floats here, and no coefficient that is quantized is a NaN.
--- Assumes nothing.
 use Rattle.tns_refusals.proofs.Determined.{Determined, itself}
 use Rattle.tns_side.proofs.quantize_all.Kinds as quantize-all-kinds
 use Rattle.tns_side.proofs.quantize_all.Reads as quantize-all-reads

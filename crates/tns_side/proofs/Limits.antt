@@ -1,4 +1,4 @@
--- What is quantized is within the limits: an order of at most 8, eight indices, eight coefficients. Assumes nothing.
+-- What is quantized is within the limits: an order of at most 8, eight indices, eight coefficients.
 use mathlib.Core.Path.{_≡_, refl, _∙_}
 use mathlib.Core.List.{List, map}
 use native.Mathlib.Omega.{arith}

@@ -1,4 +1,4 @@
--- What inner contracts and laws say of a filter and of side data. No public promise rests on these names. Assumes nothing.
+-- What inner contracts and laws say of a filter and of side data. No public promise rests on these names.
 use mathlib.Core.Path.{_≡_}
 use Prim.Native.Nat.{_≤_}
 use lib.ListN.{length}

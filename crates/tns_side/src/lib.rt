@@ -1,5 +1,5 @@
 // The side data of a frame, E's `TnsResult`, and what becomes of a filter's reflection coefficients:
-// E's `apply_quantization`, by the index rule and its table. Assumes nothing.
+// E's `apply_quantization`, by the index rule and its table.
 use tns_index::coefficient_of;
 use tns_index::index_of;
 use tns_index::order_of;

@@ -1,4 +1,4 @@
--- Laws of the costs that the layers above use in place of the tables: no order and no index costs more than 20480. Assumes nothing.
+-- Laws of the costs that the layers above use in place of the tables: no order and no index costs more than 20480.
 use mathlib.Core.Path.{_≡_, refl}
 use mathlib.Core.Bool.{true}
 use mathlib.Core.List.{List, [], _∷_}

@@ -1,5 +1,4 @@
 -- Any two results that a contract allows for one input coincide: the law of `tns_refusals`, cited for each public function of this crate.
--- Assumes nothing.
 use Rattle.tns_refusals.proofs.Determined.{Determined, itself}
 use Rattle.tns_tables.proofs.coef_bits.Kinds as coef-bits-kinds
 use Rattle.tns_tables.proofs.coef_bits.Reads as coef-bits-reads

@@ -1,5 +1,4 @@
 -- What a lookup reads outside its table: 0. One law for the rows and one for the columns, over any table.
--- Assumes nothing.
 use mathlib.Core.Path.{_≡_, refl, ap}
 use mathlib.Core.Bool.{true}
 use mathlib.Core.List.{List, [], _∷_}

@@ -1,5 +1,4 @@
 -- The tables of T, `temporal_noise_shaping_tables.rs`, as lists of rows, and how a number is read out of one.
--- Assumes nothing.
 use mathlib.Core.Bool.{Bool, true, _&&_}
 use mathlib.Core.List.{List, [], _∷_}
 use Prim.Native.Nat.{ℕ, zero, suc, _+_}

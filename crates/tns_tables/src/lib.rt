@@ -1,6 +1,6 @@
 // The lowest layer: the tables of T, `temporal_noise_shaping_tables.rs`, and how a number is read out
 // of one. Every lookup takes any numbers and answers 0 outside its table. Layers above rely on these
-// contracts alone. Assumes nothing.
+// contracts alone.
 ghost use mathlib.Core.Path.{_≡_};
 ghost use mathlib.Core.Bool.{true};
 ghost use Prim.Native.Nat.{min};

@@ -1,5 +1,4 @@
 -- What a line says of a refusal, in the words of the function that puts it: with its place, or after its number. No line has more than 81 bytes.
--- Assumes nothing.
 use mathlib.Core.Path.{_≡_, sym, ap}
 use mathlib.Core.List.{[], _∷_}
 use Prim.Native.Nat.{ℕ, _≤_}

@@ -1,4 +1,4 @@
--- Document 01, "Table of marked cases", the program: the line of text for a record. Assumes nothing.
+-- Document 01, "Table of marked cases", the program: the line of text for a record.
 use mathlib.Core.List.{List, _++_}
 use Prim.Native.Nat.{ℕ}
 use Rattle.tns_refusals.specs.Refusals.{Verdict, accepted, refused, refusedAt}

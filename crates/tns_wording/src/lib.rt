@@ -1,4 +1,4 @@
-// The text of a record's line, as the bits program writes it. Assumes nothing.
+// The text of a record's line, as the bits program writes it.
 use tns_cost::CostAnswer;
 use tns_cost::RecordAnswer;
 use tns_program::put;

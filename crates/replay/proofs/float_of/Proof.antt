@@ -1,5 +1,4 @@
--- `replay::float_of` meets its contract: a pattern above that of infinity, its sign apart, is a NaN's, and there is one NaN.
--- Assumes nothing.
+-- A pattern above that of infinity, its sign apart, is a NaN's, and there is one NaN.
 use mathlib.Core.Path.{_≡_, refl, sym, _∙_}
 use mathlib.Core.Bool.{Bool, true, false, not}
 use Prim.Native.Nat.{ℕ, _%_, _<_, _≤_}
@@ -31,6 +30,4 @@ float-from-bits-result : tie.Need-float-from-bits-result
 float-from-bits-result c = below (c .before .args .pattern) (c .if1 .left)
 
 pub float-of-spec : {M : Type 1} → statement M
-float-of-spec = tie.close (tie.spec returns
-    float-from-bits-result
-    (λ c. search needs))
+float-of-spec = tie.close (tie.spec returns float-from-bits-result (λ c. search needs))

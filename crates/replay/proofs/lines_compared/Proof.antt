@@ -1,5 +1,4 @@
 -- `replay::lines_compared` reads within its lines and ends.
--- Assumes nothing.
 use mathlib.Core.Path.{_≡_}
 use Prim.Native.Nat.{_-_, _≤_}
 use borrow.Author.Needs.{needs}

@@ -1,5 +1,4 @@
 -- `replay::main` ends: it takes each argument once.
--- Assumes nothing.
 use Prim.Native.Nat.{_-_}
 use borrow.Author.Needs.{needs}
 use Rattle.replay.proofs.main.Statement.{statement}

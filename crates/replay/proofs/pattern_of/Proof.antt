@@ -1,5 +1,4 @@
--- `replay::pattern_of` meets its contract: what differs from itself is the NaN, and anything else has a pattern of its own.
--- Assumes nothing.
+-- What differs from itself is the NaN, and anything else has a pattern of its own.
 use mathlib.Core.Path.{_≡_, refl, sym, _∙_, ap}
 use mathlib.Core.Bool.{true, false, not, true≢false}
 use Prim.Native.Nat.{ℕ}
@@ -28,6 +27,4 @@ float-to-bits-result : tie.Need-float-to-bits-result
 float-to-bits-result c = no-nan (c .before .args .x) (c .if1 .left)
 
 pub pattern-of-spec : {M : Type 1} → statement M
-pattern-of-spec = tie.close (tie.spec returns
-    float-to-bits-result
-    (λ c. search needs))
+pattern-of-spec = tie.close (tie.spec returns float-to-bits-result (λ c. search needs))

@@ -1,5 +1,4 @@
 -- `replay::read_lines` writes within its lines and ends.
--- Assumes nothing.
 use mathlib.Core.Path.{_≡_}
 use Prim.Native.Nat.{_-_, _≤_}
 use native.Mathlib.Omega.{arith}

@@ -1,5 +1,4 @@
 -- `replay::records` ends and its counts do not wrap: no more records differ than there are.
--- Assumes nothing.
 use Prim.Native.Nat.{_-_, _≤_}
 use borrow.Author.Needs.{needs}
 use Rattle.replay.proofs.records.Statement.{statement}

@@ -1,5 +1,4 @@
 -- `replay::side_compared` reads within the side data and ends.
--- Assumes nothing.
 use Prim.Native.Nat.{_-_, _≤_}
 use borrow.Author.Needs.{needs}
 use Rattle.replay.proofs.side_compared.Statement.{statement}

@@ -1,5 +1,4 @@
--- `tns::refused` meets its contract: the refusal's own numbers, and no bits.
--- Assumes nothing.
+-- The refusal's own numbers, and no bits.
 use mathlib.Core.Path.{_≡_, refl}
 use Prim.Native.Nat.{ℕ}
 use borrow.Author.Needs.{needs}
@@ -24,7 +23,8 @@ returns c =
 pub refused-spec : {M : Type 1} → statement M
 refused-spec =
     tie.close
-    (tie.spec (λ c κs. search needs)
+    (tie.spec
+    (λ c κs. search needs)
     (λ c. search needs)
     (λ c κs. search needs)
     (λ c. search needs)

@@ -1,5 +1,4 @@
--- `tns::tns_cost` meets its contract: it tells what the cost door says.
--- Assumes nothing.
+-- It tells what the cost door says.
 use mathlib.Core.Path.{_≡_, sym, _∙_, ap, subst}
 use mathlib.Core.List.{List}
 use Prim.Native.Nat.{ℕ, _≤_}

@@ -1,5 +1,4 @@
--- `tns::tns_decode` meets its contract: it tells what the decode door says, and leaves the lines that the door leaves.
--- Assumes nothing.
+-- It tells what the decode door says, and leaves the lines that the door leaves.
 use mathlib.Core.Path.{_≡_, sym, _∙_, ap, subst}
 use Prim.Native.Nat.{_≤_}
 use borrow.Author.Needs.{needs}

@@ -1,5 +1,4 @@
--- `tns::tns_encode` meets its contract: it tells what the encode door says, and writes what the door gives.
--- Assumes nothing.
+-- It tells what the encode door says, and writes what the door gives.
 use mathlib.Core.Path.{_≡_, sym, _∙_, ap, subst}
 use Prim.Native.Nat.{ℕ, _≤_}
 use borrow.Author.Needs.{needs}

@@ -1,5 +1,4 @@
--- `tns_analysis::analyse` meets its contract: the calls, one after the other, are the definition.
--- Assumes nothing.
+-- The calls, one after the other, are the definition.
 use mathlib.Core.Path.{_≡_, _∙_, ap}
 use mathlib.Core.Bool.{Bool, true, false}
 use mathlib.Core.List.{List}

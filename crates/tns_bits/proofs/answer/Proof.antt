@@ -1,5 +1,4 @@
--- `tns_bits::answer` meets its contract: what is left of the bytes is kept.
--- Assumes nothing.
+-- What is left of the bytes is kept.
 use mathlib.Core.Path.{refl}
 use native.Mathlib.Omega.{arith}
 use borrow.Author.Needs.{needs}

@@ -1,5 +1,4 @@
--- `tns_bits::end` meets its contract.
--- Assumes nothing.
+-- What is held is one record cut short: it lies within the piece, and so does its line within the output.
 use borrow.Author.Needs.{needs}
 use Rattle.io.proofs.Counting.{front}
 use Rattle.tns_bits.proofs.end.Statement.{statement}

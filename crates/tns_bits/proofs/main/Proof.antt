@@ -1,5 +1,4 @@
 -- `tns_bits::main` ends: the turns are counted down. No frame number wraps: a turn adds 800 at most.
--- Assumes nothing.
 use mathlib.Core.Path.{_≡_}
 use Prim.Native.Nat.{_+_, _*_, _≤_, _<_}
 use native.Mathlib.Omega.{arith}

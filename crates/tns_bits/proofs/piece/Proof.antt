@@ -1,5 +1,4 @@
--- `tns_bits::piece` meets its contract.
--- Assumes nothing.
+-- Whatever a read gives, a turn adds at most 800 frames and holds less than a record.
 use mathlib.Core.Path.{subst}
 use native.Mathlib.Omega.{arith}
 use borrow.Author.Needs.{needs}

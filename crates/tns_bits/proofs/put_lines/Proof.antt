@@ -1,5 +1,4 @@
--- `tns_bits::put_lines` meets its contract: a line for each record, each after those before it.
--- Assumes nothing.
+-- A line for each record, each after those before it.
 use mathlib.Core.Path.{_≡_, refl, ap, _∙_}
 use mathlib.Core.List.{List, []}
 use Prim.Native.Nat.{ℕ, _+_, _-_, _*_, _≤_}

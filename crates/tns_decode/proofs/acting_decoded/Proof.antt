@@ -1,5 +1,4 @@
--- `tns_decode::acting_decoded` meets its contract: filters of order 0 change nothing, and any others are left to `row_decoded`.
--- Assumes nothing.
+-- Filters of order 0 change nothing, and any others are left to `row_decoded`.
 use borrow.Author.Needs.{needs}
 use Rattle.tns_decode.proofs.Filters.{one-idle, all-idle}
 use Rattle.tns_decode.proofs.acting_decoded.Statement.{statement}

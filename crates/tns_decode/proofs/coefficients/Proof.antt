@@ -1,5 +1,4 @@
--- `tns_decode::coefficients` meets its contract. The invariant: the places passed hold the coefficients of their indices.
--- Assumes nothing.
+-- The invariant: the places passed hold the coefficients of their indices.
 use mathlib.Core.Path.{_≡_, refl}
 use mathlib.Core.List.{map}
 use Prim.Native.Nat.{_-_, _≤_}

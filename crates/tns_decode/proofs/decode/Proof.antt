@@ -1,5 +1,4 @@
--- `tns_decode::decode` meets its contract: a frame that is refused, side data that are refused, or the decoded spectrum.
--- Assumes nothing.
+-- A frame that is refused, side data that are refused, or the decoded spectrum.
 use mathlib.Core.Path.{_≡_, sym, _∙_, ap}
 use borrow.Author.Needs.{needs}
 use lib.ListN.{length}

@@ -1,5 +1,4 @@
--- `tns_decode::decoder_coefficient` meets its contract.
--- Assumes nothing.
+-- Index 0 is tested first; any other index has the table's coefficient.
 use mathlib.Core.Path.{_≡_, refl, _∙_}
 use Prim.Native.Nat.{ℕ, zero, suc}
 use borrow.Author.Needs.{needs}
@@ -21,6 +20,4 @@ returns-2 : tie.Need-returns-2
 returns-2 c = c .coefficient-of .ensures ∙ not-zero (c .before .before .args .index) (c .before .if1 .left)
 
 pub decoder-coefficient-spec : {M : Type 1} → statement M
-decoder-coefficient-spec = tie.close (tie.spec returns
-    (λ c κs. search needs)
-    returns-2)
+decoder-coefficient-spec = tie.close (tie.spec returns (λ c κs. search needs) returns-2)

@@ -1,5 +1,4 @@
--- `tns_decode::row_decoded` meets its contract: none, one or two filters, the second going on from the first one's states and lines.
--- Assumes nothing.
+-- None, one or two filters, the second going on from the first one's states and lines.
 use mathlib.Core.Path.{_≡_, sym, _∙_, ap, subst}
 use mathlib.Core.List.{List, map}
 use Prim.Native.Nat.{ℕ}

@@ -1,5 +1,4 @@
--- `tns_encode::encode` meets its contract: a frame that is refused, or the definition's filters and lines.
--- Assumes nothing.
+-- A frame that is refused, or the definition's filters and lines.
 use mathlib.Core.Path.{_≡_, sym, _∙_, ap, subst}
 use mathlib.Core.Bool.{Bool}
 use mathlib.Core.List.{List}

@@ -1,5 +1,4 @@
--- `tns_encode::filter_encoded` meets its contract: the part that was lent comes back filtered, and the rest of the spectrum as it was.
--- Assumes nothing.
+-- The part that was lent comes back filtered, and the rest of the spectrum as it was.
 use mathlib.Core.Path.{_≡_, _∙_, ap}
 use mathlib.Core.List.{List, _++_}
 use Prim.Native.Nat.{ℕ, _-_, _≤_, min}

@@ -1,5 +1,4 @@
--- `tns_encode::refused` meets its contract: the refusal, and no side data.
--- Assumes nothing.
+-- The refusal, and no side data.
 use mathlib.Core.Path.{_≡_, refl}
 use borrow.Author.Needs.{needs}
 use Rattle.tns_side.specs.Side.{noSide}
@@ -16,6 +15,4 @@ returns : tie.Need-returns
 returns c = (refl, empty (c .before .no-filter .result) (c .no-filter2 .result) (c .before .no-filter .ensures) (c .no-filter2 .ensures))
 
 pub refused-spec : {M : Type 1} → statement M
-refused-spec = tie.close (tie.spec (λ c κs. search needs)
-    (λ c κs. search needs)
-    returns)
+refused-spec = tie.close (tie.spec (λ c κs. search needs) (λ c κs. search needs) returns)

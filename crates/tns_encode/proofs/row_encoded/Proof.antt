@@ -1,5 +1,4 @@
--- `tns_encode::row_encoded` meets its contract: the side data are the definition's, and so are their bits and the lines that they leave.
--- Assumes nothing.
+-- The side data are the definition's, and so are their bits and the lines that they leave.
 use mathlib.Core.Path.{_≡_, sym, _∙_, ap, subst}
 use mathlib.Core.Bool.{Bool}
 use mathlib.Core.List.{List}
@@ -39,7 +38,4 @@ returns c =
     )
 
 pub row-encoded-spec : {M : Type 1} → statement M
-row-encoded-spec = tie.close (tie.spec (λ c κs. search needs)
-    two-encoded-requires
-    (λ c. search needs)
-    returns)
+row-encoded-spec = tie.close (tie.spec (λ c κs. search needs) two-encoded-requires (λ c. search needs) returns)

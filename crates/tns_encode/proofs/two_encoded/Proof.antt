@@ -1,5 +1,4 @@
--- `tns_encode::two_encoded` meets its contract: the second filter goes on from the first one's states and lines.
--- Assumes nothing.
+-- The second filter goes on from the first one's states and lines.
 use mathlib.Core.Path.{_∙_, ap}
 use mathlib.Core.List.{List}
 use borrow.Author.Needs.{needs}
@@ -27,8 +26,4 @@ returns c =
     (first .filter-encoded .ensures .1)
 
 pub two-encoded-spec : {M : Type 1} → statement M
-two-encoded-spec =
-    tie.close (tie.spec (λ c κs. search needs)
-    (λ c κs. search needs)
-    (λ c. search needs)
-    returns)
+two-encoded-spec = tie.close (tie.spec (λ c κs. search needs) (λ c κs. search needs) (λ c. search needs) returns)

@@ -1,5 +1,4 @@
--- `tns_frames::asked_band` meets its contract: the row's band of a sound frame, and none of a refused one.
--- Assumes nothing.
+-- The row's band of a sound frame, and none of a refused one.
 use mathlib.Core.Path.{_≡_, refl, sym, _∙_, ap}
 use Prim.Native.Nat.{ℕ}
 use borrow.Author.Needs.{needs}

@@ -1,5 +1,4 @@
--- `tns_frames::band_lines` meets its contract: the part that it hands back lies within the lines, and is the asked band's.
--- Assumes nothing.
+-- The part that it hands back lies within the lines, and is the asked band's.
 use mathlib.Core.Path.{sym, ap, subst, _∙_}
 use native.Mathlib.Omega.{arith}
 use borrow.Author.Needs.{needs}
@@ -47,7 +46,8 @@ returns c =
 pub band-lines-spec : {M : Type 1} → statement M
 band-lines-spec =
     tie.close
-    (tie.spec (λ c κs. search needs)
+    (tie.spec
+    (λ c κs. search needs)
     mul-lines
     sub-result
     part-lines-start

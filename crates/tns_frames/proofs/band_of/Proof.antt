@@ -1,5 +1,4 @@
--- `tns_frames::band_of` meets its contract.
--- Assumes nothing.
+-- A row has two bands, so a third filter has none.
 use mathlib.Core.Path.{_≡_, refl, _∙_}
 use Prim.Native.Nat.{ℕ, zero, suc}
 use borrow.Author.Needs.{needs}
@@ -17,7 +16,4 @@ returns-3 : tie.Need-returns-3
 returns-3 c = c .none .ensures ∙ third (c .before .before .before .args .row) (c .before .before .before .args .filter) (c .before .before .if1 .left) (c .before .if2 .left)
 
 pub band-of-spec : {M : Type 1} → statement M
-band-of-spec = tie.close (tie.spec (λ c. search needs)
-    (λ c. search needs)
-    (λ c κs. search needs)
-    returns-3)
+band-of-spec = tie.close (tie.spec (λ c. search needs) (λ c. search needs) (λ c κs. search needs) returns-3)

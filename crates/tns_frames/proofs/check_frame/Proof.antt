@@ -1,5 +1,4 @@
--- `tns_frames::check_frame` meets its contract: each return goes through the checks before it, in number order.
--- Assumes nothing.
+-- Each return goes through the checks before it, in number order.
 use mathlib.Core.Path.{_≡_, refl, _∙_}
 use Prim.Native.Nat.{ℕ, zero, suc, _<_, _≤_}
 use borrow.Author.Needs.{needs}
@@ -60,7 +59,10 @@ returns-4 c =
     ∙ length-left (g .duration) (g .bandwidth) (g .lines) (tests .before .if1 .left) (tests .if2 .left) SevenPointFive (seven-point-five (g .duration) (c .before .if3 .left))
 
 pub check-frame-spec : {M : Type 1} → statement M
-check-frame-spec = tie.close (tie.spec returns
+check-frame-spec =
+    tie.close
+    (tie.spec
+    returns
     returns-2
     (λ c κs. search needs)
     returns-3

@@ -1,4 +1,4 @@
--- `tns_frames::frame_of` meets its contract. The laws are over the duration's own numbers, so they serve both durations. Assumes nothing.
+-- The laws are over the duration's own numbers, so they serve both durations.
 use mathlib.Core.Path.{_≡_, _∙_, ap}
 use Prim.Native.Nat.{ℕ, _<_, _≤_}
 use native.Mathlib.Omega.{arith}
@@ -47,7 +47,10 @@ returns-3 c =
     ∙ fine (g .duration) (g .bandwidth) (g .lines) (omega (arith, stop-is (stopped .before), stopped .if1 .left)) (omega (arith, c .before .longest .ensures, c .if2 .left))
 
 pub frame-of-spec : {M : Type 1} → statement M
-frame-of-spec = tie.close (tie.spec (λ c κs. search needs)
+frame-of-spec =
+    tie.close
+    (tie.spec
+    (λ c κs. search needs)
     (λ c κs. search needs)
     returns
     (λ c κs. search needs)

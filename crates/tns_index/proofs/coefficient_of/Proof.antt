@@ -1,5 +1,4 @@
--- `tns_index::coefficient_of` meets its contract: the table's coefficient, and 0 past the table.
--- Assumes nothing.
+-- The table's coefficient, and 0 past the table.
 use mathlib.Core.Path.{sym}
 use native.Mathlib.Omega.{arith}
 use borrow.Author.Needs.{needs}
@@ -19,7 +18,4 @@ unfolding coefficientOf
 returns-2 c = any-default coefficients nan plusZero (c .before .args .index) (omega arith)
 
 pub coefficient-of-spec : {M : Type 1} → statement M
-coefficient-of-spec = tie.close (tie.spec returns
-    (λ c. search needs)
-    (λ c. search needs)
-    returns-2)
+coefficient-of-spec = tie.close (tie.spec returns (λ c. search needs) (λ c. search needs) returns-2)

@@ -1,5 +1,4 @@
--- `tns_index::index_of` meets its contract: the tests of the code are those of the rule, in its order.
--- Assumes nothing.
+-- The tests of the code are those of the rule, in its order.
 use mathlib.Core.Path.{_≡_, refl, _∙_, ap}
 use mathlib.Core.Bool.{Bool, true, false, _&&_}
 use mathlib.Core.Logic.{⊎-elim}

@@ -1,5 +1,4 @@
--- `tns_index::not_above` meets its contract. The invariant: what is counted, with what is left of the table to count, is the whole count.
--- Assumes nothing.
+-- The invariant: what is counted, with what is left of the table to count, is the whole count.
 use mathlib.Core.Path.{_≡_}
 use mathlib.Core.Bool.{Bool, true, false, cond}
 use mathlib.Core.List.{List}

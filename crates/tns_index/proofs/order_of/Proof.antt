@@ -1,5 +1,4 @@
--- `tns_index::order_of` meets its contract. The invariant: going on from here with what was found gives the order of all eight.
--- Assumes nothing.
+-- The invariant: going on from here with what was found gives the order of all eight.
 use mathlib.Core.Path.{_≡_, refl, sym, _∙_, ap}
 use mathlib.Core.Bool.{Bool, cond}
 use mathlib.Core.List.{List}

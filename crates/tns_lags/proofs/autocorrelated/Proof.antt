@@ -1,5 +1,4 @@
--- `tns_lags::autocorrelated` meets its contract: the lags of the three parts, long or not.
--- Assumes nothing.
+-- The lags of the three parts, long or not.
 use mathlib.Core.Path.{_≡_, _∙_}
 use mathlib.Core.List.{List}
 use borrow.Author.Needs.{needs}

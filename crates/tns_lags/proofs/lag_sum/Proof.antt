@@ -1,5 +1,4 @@
--- `tns_lags::lag_sum` meets its contract. The invariant: the first n products are added up, and there are no more than the subband has.
--- Assumes nothing.
+-- The invariant: the first n products are added up, and there are no more than the subband has.
 use mathlib.Core.Path.{_≡_, refl, _∙_, ap}
 use mathlib.Core.List.{List}
 use Prim.Native.Nat.{ℕ, _+_, _-_, _≤_}

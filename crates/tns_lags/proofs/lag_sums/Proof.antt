@@ -1,5 +1,4 @@
--- `tns_lags::lag_sums` meets its contract. The invariant: the lines passed have added their products; the last lines have fewer lags.
--- Assumes nothing.
+-- The invariant: the lines passed have added their products; the last lines have fewer lags.
 use mathlib.Core.Path.{_≡_, refl, _∙_, ap}
 use mathlib.Core.List.{List}
 use Prim.Native.Nat.{_-_, _≤_}

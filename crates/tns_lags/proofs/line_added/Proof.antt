@@ -1,5 +1,4 @@
--- `tns_lags::line_added` meets its contract. The invariant: the sums below k have their product, and the others are as they were.
--- Assumes nothing.
+-- The invariant: the sums below k have their product, and the others are as they were.
 use mathlib.Core.Path.{_≡_, sym, _∙_, ap}
 use Prim.Native.Nat.{ℕ, _+_, _-_, _<_, _≤_}
 use native.Mathlib.Omega.{arith}

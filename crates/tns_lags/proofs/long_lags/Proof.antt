@@ -1,5 +1,4 @@
--- `tns_lags::long_lags` meets its contract: the lags from the sums of the three subbands.
--- Assumes nothing.
+-- The lags from the sums of the three subbands.
 use mathlib.Core.Path.{_∙_}
 use borrow.Author.Needs.{needs}
 use Rattle.tns_lags.proofs.Lags.{lags-are}

@@ -1,5 +1,4 @@
--- `tns_lags::normalized` meets its contract. The invariant: the places passed hold their lags.
--- Assumes nothing.
+-- The invariant: the places passed hold their lags.
 use mathlib.Core.Path.{_≡_, refl}
 use Prim.Native.Nat.{ℕ, _-_, _<_, _≤_}
 use native.Mathlib.Omega.{arith}

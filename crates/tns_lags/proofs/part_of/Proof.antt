@@ -1,5 +1,4 @@
--- `tns_lags::part_of` meets its contract: start and stop cut at the end of the lines give the same part.
--- Assumes nothing.
+-- Start and stop cut at the end of the lines give the same part.
 use mathlib.Core.Path.{_≡_, _∙_, ap}
 use Prim.Native.Nat.{ℕ, min}
 use borrow.Author.Needs.{needs}

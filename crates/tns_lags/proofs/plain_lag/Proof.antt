@@ -1,5 +1,4 @@
--- `tns_lags::plain_lag` meets its contract: silent or not.
--- Assumes nothing.
+-- Silent or not.
 use borrow.Author.Needs.{needs}
 use Rattle.tns_lags.proofs.plain_lag.Statement.{statement}
 use Rattle.tns_lags.proofs.plain_lag.Tie as tie

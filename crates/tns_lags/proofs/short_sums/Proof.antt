@@ -1,5 +1,4 @@
--- `tns_lags::short_sums` meets its contract. The invariant: the places passed hold their sums.
--- Assumes nothing.
+-- The invariant: the places passed hold their sums.
 use mathlib.Core.Path.{_≡_, refl}
 use Prim.Native.Nat.{ℕ, _-_, _<_, _≤_}
 use native.Mathlib.Omega.{arith}

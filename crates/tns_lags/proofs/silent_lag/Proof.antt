@@ -1,5 +1,4 @@
--- `tns_lags::silent_lag` meets its contract: lag 0 or another.
--- Assumes nothing.
+-- Lag 0 or another.
 use borrow.Author.Tests.{eq-eqb, ne-eqb}
 use Rattle.tns_lags.proofs.silent_lag.Statement.{statement}
 use Rattle.tns_lags.proofs.silent_lag.Tie as tie
@@ -11,5 +10,4 @@ returns-2 : tie.Need-returns-2
 returns-2 c = rw (ne-eqb (c .before .args .k) 0 (c .if1 .left))
 
 pub silent-lag-spec : {M : Type 1} → statement M
-silent-lag-spec = tie.close (tie.spec returns
-    returns-2)
+silent-lag-spec = tie.close (tie.spec returns returns-2)

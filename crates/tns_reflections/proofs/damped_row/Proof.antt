@@ -1,5 +1,4 @@
--- `tns_reflections::damped_row` meets its contract. The invariant: the places passed hold their products.
--- Assumes nothing.
+-- The invariant: the places passed hold their products.
 use mathlib.Core.Path.{_≡_, refl, ap}
 use Prim.Native.Nat.{ℕ, _-_, _<_, _≤_}
 use native.Mathlib.Omega.{arith}

@@ -1,5 +1,4 @@
--- `tns_reflections::power_of` meets its contract. The invariant: going on from here through the bits that are left gives the power.
--- Assumes nothing.
+-- The invariant: going on from here through the bits that are left gives the power.
 use mathlib.Core.Path.{_≡_, refl, sym, _∙_, ap}
 use mathlib.Core.Bool.{Bool, true, false, cond}
 use mathlib.Core.Logic.{⊎-elim}
@@ -49,11 +48,4 @@ returns c =
     sym (l .inv .1 ∙ none-left (l .counter) (l .product) (l .square) (l .rest) (omega arith))
 
 pub power-of-spec : {M : Type 1} → statement M
-power-of-spec =
-    tie.close (tie.spec Inv-loop
-    μ-loop
-    loop-holds
-    (λ c. omega arith)
-    (λ c. omega arith)
-    loop-again
-    returns)
+power-of-spec = tie.close (tie.spec Inv-loop μ-loop loop-holds (λ c. omega arith) (λ c. omega arith) loop-again returns)

@@ -1,6 +1,5 @@
--- `tns_reflections::reflected_row` meets its contract. The invariant: the row is the definition's of this height, and the places from
+-- The invariant: the row is the definition's of this height, and the places from
 -- here up hold their reflection coefficients.
--- Assumes nothing.
 use mathlib.Core.Path.{_≡_, refl, _∙_}
 use mathlib.Core.List.{List}
 use Prim.Native.Nat.{ℕ, suc, _-_, _<_, _≤_}

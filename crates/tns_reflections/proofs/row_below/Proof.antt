@@ -1,5 +1,4 @@
--- `tns_reflections::row_below` meets its contract. The invariant: the places below n are those of the row below, and the others 0.
--- Assumes nothing.
+-- The invariant: the places below n are those of the row below, and the others 0.
 use mathlib.Core.Path.{_≡_, refl, _∙_, ap}
 use Prim.Native.Nat.{ℕ, _-_, _<_, _≤_}
 use native.Mathlib.Omega.{arith}

@@ -1,5 +1,4 @@
--- `tns_refusals::check_side` meets its contract: each return goes through the checks before it, in number order.
--- Assumes nothing.
+-- Each return goes through the checks before it, in number order.
 use mathlib.Core.Path.{_≡_, refl, sym, _∙_, ap}
 use mathlib.Core.List.{List}
 use Prim.Native.Nat.{ℕ, _<_, _≤_}

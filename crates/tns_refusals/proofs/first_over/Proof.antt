@@ -1,5 +1,5 @@
--- `tns_refusals::first_over` meets its contract. The invariant: the search from here on answers what the search of the whole list does, so there
--- is a number here. Assumes nothing.
+-- The invariant: the search from here on answers what the search of the whole list does, so there
+-- is a number here.
 use mathlib.Core.Path.{_≡_, refl, sym, _∙_, ap}
 use mathlib.Core.Bool.{Bool, true, false}
 use mathlib.Core.List.{List}

@@ -1,4 +1,4 @@
--- `tns_refusals::lowest_over` meets its contract: nowhere, if no number is over the limit, and else the first that is. Assumes nothing.
+-- Nowhere, if no number is over the limit, and else the first that is.
 use mathlib.Core.Path.{_≡_, refl, sym, _∙_, subst}
 use lib.Dec.{T}
 use mathlib.Core.Bool.{Bool, true, false}
@@ -20,7 +20,4 @@ first-over-requires : tie.Need-first-over-requires
 first-over-requires c κs = sym (c .before .none-over .ensures) ∙ c .if1 .left
 
 pub lowest-over-spec : {M : Type 1} → statement M
-lowest-over-spec = tie.close (tie.spec (λ c κs. search needs)
-    returns
-    first-over-requires
-    (λ c. search needs))
+lowest-over-spec = tie.close (tie.spec (λ c κs. search needs) returns first-over-requires (λ c. search needs))

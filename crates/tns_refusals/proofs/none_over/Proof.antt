@@ -1,4 +1,4 @@
--- `tns_refusals::none_over` meets its contract. The invariant: none so far, and none from here on, is none at all. Assumes nothing.
+-- The invariant: none so far, and none from here on, is none at all.
 use mathlib.Core.Path.{_≡_, refl, sym, _∙_, ap}
 use mathlib.Core.Logic.{⊎-elim}
 use mathlib.Core.Bool.{Bool, true, false, _&&_}
@@ -63,7 +63,10 @@ returns c =
     sym (l .inv .2 ∙ at-end (l .none) (g .limit) (g .numbers .now) (l .i) (omega arith))
 
 pub none-over-spec : {M : Type 1} → statement M
-none-over-spec = tie.close (tie.spec Inv-loop
+none-over-spec =
+    tie.close
+    (tie.spec
+    Inv-loop
     μ-loop
     loop-holds
     (λ c. omega arith)

@@ -1,5 +1,4 @@
--- `tns_side::joined` meets its contract. The invariant: the first places hold the first list so far, and those from 8 on the second.
--- Assumes nothing.
+-- The invariant: the first places hold the first list so far, and those from 8 on the second.
 use mathlib.Core.Path.{_≡_, refl, _∙_}
 use mathlib.Core.List.{List, _++_}
 use Prim.Native.Nat.{ℕ, _+_, _-_, _<_, _≤_}

@@ -1,5 +1,4 @@
--- `tns_side::none` meets its contract.
--- Assumes nothing.
+-- The literals are the definition's.
 use borrow.Author.Needs.{needs}
 use Rattle.tns_side.specs.Quantized.{absent}
 use Rattle.tns_side.proofs.none.Statement.{statement}

@@ -1,5 +1,4 @@
--- `tns_side::quantize_all` meets its contract.
--- Assumes nothing.
+-- The coefficients and the order are those of the indices, and these those of the reflections.
 use mathlib.Core.Path.{_≡_}
 use mathlib.Core.List.{List, map}
 use Prim.Native.Nat.{ℕ}
@@ -22,8 +21,4 @@ returns c =
     (c .before .before .indices-of .ensures) (c .before .table-coefficients .ensures) (c .order-of .ensures)
 
 pub quantize-all-spec : {M : Type 1} → statement M
-quantize-all-spec =
-    tie.close (tie.spec (λ c κs. search needs)
-    (λ c κs. search needs)
-    (λ c κs. search needs)
-    returns)
+quantize-all-spec = tie.close (tie.spec (λ c κs. search needs) (λ c κs. search needs) (λ c κs. search needs) returns)

@@ -1,6 +1,5 @@
--- `tns_side::record_with` meets its contract. The invariant: the first four places are as they were, those from 4 on hold the first list so far, and
+-- The invariant: the first four places are as they were, those from 4 on hold the first list so far, and
 -- those from 12 on the second.
--- Assumes nothing.
 use mathlib.Core.Path.{_≡_, refl, _∙_}
 use mathlib.Core.List.{List, _++_}
 use Prim.Native.Nat.{ℕ, zero, suc, _+_, _-_, _<_, _≤_}

@@ -1,5 +1,4 @@
--- `tns_side::table_coefficients` meets its contract. The invariant: the places passed are done.
--- Assumes nothing.
+-- The invariant: the places passed are done.
 use mathlib.Core.Path.{_≡_, refl}
 use mathlib.Core.List.{map}
 use Prim.Native.Nat.{_-_, _≤_}

@@ -1,5 +1,4 @@
--- `tns_tables::of_coefficient` meets its contract: past the last row and past the last column a table reads 0.
--- Assumes nothing.
+-- Past the last row and past the last column a table reads 0.
 use native.Mathlib.Omega.{arith}
 use mathlib.Core.Path.{sym}
 use borrow.Author.Needs.{needs}

@@ -1,5 +1,4 @@
--- `tns_tables::of_order` meets its contract: order 0 reads 0, and so does what lies past the last row or column.
--- Assumes nothing.
+-- Order 0 reads 0, and so does what lies past the last row or column.
 use mathlib.Core.Path.{_≡_, refl, sym}
 use mathlib.Core.Bool.{true}
 use mathlib.Core.List.{List}

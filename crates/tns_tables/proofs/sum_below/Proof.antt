@@ -1,5 +1,4 @@
--- `tns_tables::sum_below` meets its contract. The invariant: the sum so far, with what is still to come, is the whole.
--- Assumes nothing.
+-- The invariant: the sum so far, with what is still to come, is the whole.
 use mathlib.Core.Path.{_≡_, _∙_}
 use mathlib.Core.List.{List}
 use Prim.Native.Nat.{ℕ, _+_, _-_, _*_, _<_, _≤_, min}

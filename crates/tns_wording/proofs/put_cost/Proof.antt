@@ -1,5 +1,4 @@
--- `tns_wording::put_cost` meets its contract: the bits, or the refusal.
--- Assumes nothing.
+-- The bits, or the refusal.
 use mathlib.Core.Path.{ap, sym, _∙_}
 use native.Mathlib.Omega.{arith}
 use lib.ListN.{length, take}

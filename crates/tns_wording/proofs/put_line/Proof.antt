@@ -1,5 +1,4 @@
--- `tns_wording::put_line` meets its contract: the pieces of a line, one after the other.
--- Assumes nothing.
+-- The pieces of a line, one after the other.
 use mathlib.Core.List.{_++_}
 use native.Mathlib.Omega.{arith}
 use lib.ListN.{length, take}

@@ -1,5 +1,4 @@
--- `tns_wording::put_number` meets its contract.
--- Assumes nothing.
+-- A word and a number, the one after the other.
 use native.Mathlib.Omega.{arith}
 use lib.ListN.{length, take}
 use Rattle.tns_program.specs.Text.{ascii, decimal}
@@ -20,7 +19,9 @@ returns c =
 
 pub put-number-spec : {M : Type 1} → statement M
 put-number-spec =
-    tie.close (tie.spec (λ c. search needs)
+    tie.close
+    (tie.spec
+    (λ c. search needs)
     (λ c κs. search needs)
     (λ c κs. search needs)
     (λ c. search needs)

@@ -1,5 +1,4 @@
--- `tns_wording::put_place` meets its contract.
--- Assumes nothing.
+-- The refusal's number, a word and the place, one after the other.
 use mathlib.Core.List.{_++_}
 use native.Mathlib.Omega.{arith}
 use lib.ListN.{length, take}

@@ -1,5 +1,4 @@
--- `tns_wording::put_refusal` meets its contract: each refusal with its place, or after its number.
--- Assumes nothing.
+-- Each refusal with its place, or after its number.
 use mathlib.Core.Path.{refl, ap, _∙_}
 use lib.ListN.{length, take}
 use Rattle.tns_refusals.specs.declared.Refusal.the-variants.{Order, Index}

@@ -1,5 +1,4 @@
--- `tns_wording::put_saying` meets its contract: that the bytes are too few, or what the cost call answers.
--- Assumes nothing.
+-- That the bytes are too few, or what the cost call answers.
 use mathlib.Core.Path.{ap, sym, _∙_}
 use lib.ListN.{length, take}
 use Rattle.tns_program.specs.Text.{after}

@@ -1,5 +1,4 @@
--- `tns_analysis::frame::analyse_frame` meets its contract: the side data are the definition's, and within the limits that their bits ask for.
--- Assumes nothing.
+-- The side data are the definition's, and within the limits that their bits ask for.
 use mathlib.Core.Path.{sym, _∙_, ap, subst}
 use borrow.Author.Needs.{needs}
 use Rattle.tns_side.specs.Side.{bitsOf}
@@ -17,6 +16,4 @@ returns : tie.Need-returns
 returns c = (c .before .side-of .ensures, c .side-bits .ensures ∙ ap bitsOf (c .before .side-of .ensures))
 
 pub analyse-frame-spec : {M : Type 1} → statement M
-analyse-frame-spec = tie.close (tie.spec (λ c κs. search needs)
-    side-bits-requires
-    returns)
+analyse-frame-spec = tie.close (tie.spec (λ c κs. search needs) side-bits-requires returns)

@@ -1,5 +1,4 @@
--- `tns_analysis::frame::count_of` meets its contract: a row has a second band or none.
--- Assumes nothing.
+-- A row has a second band or none.
 use borrow.Author.Tests.{eq-eqb, ne-eqb}
 use Rattle.tns_analysis.proofs.frame.count_of.Statement.{statement}
 use Rattle.tns_analysis.proofs.frame.count_of.Tie as tie
@@ -11,5 +10,4 @@ returns-2 : tie.Need-returns-2
 returns-2 c = rw (ne-eqb (c .before .before .args .row .second .stop) 0 (c .if1 .left))
 
 pub count-of-spec : {M : Type 1} → statement M
-count-of-spec = tie.close (tie.spec returns
-    returns-2)
+count-of-spec = tie.close (tie.spec returns returns-2)

@@ -1,5 +1,4 @@
--- `tns_analysis::frame::filter_of` meets its contract. A filter that is off has eight zeros, whose indices are eights.
--- Assumes nothing.
+-- A filter that is off has eight zeros, whose indices are eights.
 use mathlib.Core.Path.{_≡_, refl, _∙_, ap}
 use mathlib.Core.Bool.{Bool, false}
 use mathlib.Core.List.{List}
@@ -37,7 +36,10 @@ returns-2 c =
     c .none .ensures ∙ off-is (g .band) (g .lines .now) (g .flag) (g .weighting) (found .analyse .result .gain) (found .analyse .ensures .0) (c .before .if1 .left)
 
 pub filter-of-spec : {M : Type 1} → statement M
-filter-of-spec = tie.close (tie.spec (λ c κs. search needs)
+filter-of-spec =
+    tie.close
+    (tie.spec
+    (λ c κs. search needs)
     (λ c κs. search needs)
     returns
     (λ c κs. search needs)

@@ -1,5 +1,4 @@
--- `tns_analysis::frame::second_of` meets its contract: no filter where the row has no second band.
--- Assumes nothing.
+-- No filter where the row has no second band.
 use mathlib.Core.Path.{_≡_, _∙_}
 use mathlib.Core.Bool.{Bool}
 use mathlib.Core.List.{List}
@@ -33,7 +32,4 @@ returns-2 c =
     c .filter-of .ensures ∙ has-second (g .row) (g .lines .now) (g .flag) (g .weighting) (c .before .if1 .left)
 
 pub second-of-spec : {M : Type 1} → statement M
-second-of-spec = tie.close (tie.spec (λ c κs. search needs)
-    returns
-    (λ c κs. search needs)
-    returns-2)
+second-of-spec = tie.close (tie.spec (λ c κs. search needs) returns (λ c κs. search needs) returns-2)

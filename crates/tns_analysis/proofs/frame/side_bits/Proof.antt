@@ -1,5 +1,4 @@
--- `tns_analysis::frame::side_bits` meets its contract: each filter is rounded up by itself.
--- Assumes nothing.
+-- Each filter is rounded up by itself.
 use mathlib.Core.Path.{_≡_, refl, sym, _∙_}
 use Prim.Native.Nat.{ℕ, _+_, _≤_}
 use native.Mathlib.Omega.{arith}

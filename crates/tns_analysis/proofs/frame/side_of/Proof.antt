@@ -1,5 +1,4 @@
--- `tns_analysis::frame::side_of` meets its contract: the parts are the definition's.
--- Assumes nothing.
+-- The parts are the definition's.
 use mathlib.Core.Path.{_≡_}
 use mathlib.Core.Bool.{Bool}
 use mathlib.Core.List.{List}
@@ -28,7 +27,4 @@ returns c =
     (first .filter-of .ensures) (second .second-of .ensures) (c .count-of .ensures)
 
 pub side-of-spec : {M : Type 1} → statement M
-side-of-spec = tie.close (tie.spec (λ c κs. search needs)
-    (λ c κs. search needs)
-    (λ c κs. search needs)
-    returns)
+side-of-spec = tie.close (tie.spec (λ c κs. search needs) (λ c κs. search needs) (λ c κs. search needs) returns)

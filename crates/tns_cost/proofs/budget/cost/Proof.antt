@@ -1,5 +1,4 @@
--- `tns_cost::budget::cost` meets its contract: what the shared checks refuse is refused, then a weighting over 1, and the rest has its bits.
--- Assumes nothing.
+-- What the shared checks refuse is refused, then a weighting over 1, and the rest has its bits.
 use mathlib.Core.Path.{_≡_, sym, _∙_, ap, subst}
 use mathlib.Core.List.{List}
 use Prim.Native.Nat.{ℕ, _<_, _≤_}

@@ -1,5 +1,4 @@
--- `tns_cost::budget::counted_bits` meets its contract: none, one or two filters, each rounded up by itself.
--- Assumes nothing.
+-- None, one or two filters, each rounded up by itself.
 use mathlib.Core.Path.{_≡_, sym, _∙_}
 use Prim.Native.Nat.{_+_}
 use native.Mathlib.Omega.{arith}

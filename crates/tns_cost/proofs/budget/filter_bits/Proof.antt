@@ -1,5 +1,4 @@
--- `tns_cost::budget::filter_bits` meets its contract. That nothing wraps follows from the bound on a cost at any order.
--- Assumes nothing.
+-- That nothing wraps follows from the bound on a cost at any order.
 use native.Mathlib.Omega.{arith}
 use borrow.Author.Needs.{needs}
 use Rattle.tns_cost.specs.Cost.{filterBits}
@@ -31,9 +30,4 @@ returns c =
     )
 
 pub filter-bits-spec : {M : Type 1} → statement M
-filter-bits-spec =
-    tie.close (tie.spec (λ c κs. search needs)
-    add-result
-    cast-result
-    add-result-2
-    returns)
+filter-bits-spec = tie.close (tie.spec (λ c κs. search needs) add-result cast-result add-result-2 returns)

@@ -1,5 +1,4 @@
--- `tns_cost::budget::filter_cost` meets its contract: order 0 costs nothing, any other its own cost and that of the indices below it.
--- Assumes nothing.
+-- Order 0 costs nothing, any other its own cost and that of the indices below it.
 use mathlib.Core.Path.{_≡_, refl}
 use mathlib.Core.List.{List}
 use Prim.Native.Nat.{ℕ, _+_}

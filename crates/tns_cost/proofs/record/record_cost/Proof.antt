@@ -1,5 +1,4 @@
--- `tns_cost::record::record_cost` meets its contract: too few bytes, or the cost of their parts.
--- Assumes nothing.
+-- Too few bytes, or the cost of their parts.
 use mathlib.Core.Path.{_≡_, _∙_, ap}
 use mathlib.Core.List.{List}
 use Prim.Native.Nat.{ℕ, _<_, _≤_}

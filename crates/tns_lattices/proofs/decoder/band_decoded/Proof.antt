@@ -1,5 +1,4 @@
--- `tns_lattices::decoder::band_decoded` meets its contract: one law over the order serves every arm.
--- Assumes nothing.
+-- One law over the order serves every arm.
 use mathlib.Core.Path.{_≡_, ap}
 use mathlib.Core.List.{List}
 use Prim.Native.Nat.{ℕ, min}

@@ -1,6 +1,5 @@
--- `tns_lattices::decoder::line_decoded` meets its contract. The invariant: the stages still to come, on the line and the states as they are, give
+-- The invariant: the stages still to come, on the line and the states as they are, give
 -- what all of them give.
--- Assumes nothing.
 use mathlib.Core.Path.{_≡_, refl, sym, _∙_, ap}
 use mathlib.Core.List.{List}
 use Prim.Native.Nat.{ℕ, zero, suc, _+_, _-_, _<_, _≤_}

@@ -1,6 +1,5 @@
--- `tns_lattices::decoder::lines_decoded` meets its contract. The invariant: the lines done, and what the definition makes of the rest from here,
+-- The invariant: the lines done, and what the definition makes of the rest from here,
 -- are what it makes of all; the same of the states.
--- Assumes nothing.
 use mathlib.Core.Path.{_≡_, refl, sym, _∙_, ap}
 use mathlib.Core.List.{List, _++_}
 use Prim.Native.Nat.{ℕ, _-_, _≤_}

@@ -1,5 +1,4 @@
--- `tns_lattices::encoder::line_encoded` meets its contract: the stages below the last, then the last.
--- Assumes nothing.
+-- The stages below the last, then the last.
 use mathlib.Core.Path.{_≡_}
 use mathlib.Core.List.{List}
 use Prim.Native.Nat.{ℕ, zero, suc, _-_, _<_}

@@ -1,5 +1,4 @@
--- `tns_lattices::encoder::stage_up` meets its contract: the operations are the definition's, in its order.
--- Assumes nothing.
+-- The operations are the definition's, in its order.
 use borrow.Author.Needs.{needs}
 use Rattle.tns_lattices.specs.EncoderLattice.{stage}
 use Rattle.tns_lattices.proofs.encoder.stage_up.Statement.{statement}
@@ -11,7 +10,9 @@ returns c = search needs
 
 pub stage-up-spec : {M : Type 1} → statement M
 stage-up-spec =
-    tie.close (tie.spec (λ c. search needs)
+    tie.close
+    (tie.spec
+    (λ c. search needs)
     (λ c. search needs)
     (λ c. search needs)
     (λ c. search needs)

@@ -1,5 +1,4 @@
--- `tns_lattices::encoder::stages_up` meets its contract. The invariant: the stages passed are the definition's.
--- Assumes nothing.
+-- The invariant: the stages passed are the definition's.
 use mathlib.Core.Path.{_≡_, refl, _∙_, ap}
 use mathlib.Core.List.{List}
 use Prim.Native.Nat.{ℕ, _+_, _-_, _≤_}

@@ -1,5 +1,4 @@
--- `tns_program::streams::keep` meets its contract: what it copies downwards it has not overwritten yet.
--- Assumes nothing.
+-- What it copies downwards it has not overwritten yet.
 use mathlib.Core.Path.{_≡_, refl, sym, ap, _∙_}
 use mathlib.Core.List.{List}
 use Prim.Native.Nat.{ℕ, _+_, _-_, _≤_, _<_}

@@ -1,5 +1,4 @@
--- `tns_program::streams::read_after` meets its contract: a read stays within the part that it is lent.
--- Assumes nothing.
+-- A read stays within the part that it is lent.
 use Prim.Native.Nat.{_-_}
 use native.Mathlib.Omega.{arith}
 use borrow.Author.Needs.{needs}

@@ -1,5 +1,4 @@
--- `tns_program::text::put` meets its contract: it copies, from the place on, as much of the text as there is room for.
--- Assumes nothing.
+-- It copies, from the place on, as much of the text as there is room for.
 use mathlib.Core.Path.{_≡_, refl, sym, ap, _∙_}
 use mathlib.Core.List.{List}
 use native.Mathlib.Omega.{arith}

@@ -1,5 +1,4 @@
--- `tns_program::text::put_decimal` meets its contract: it puts the digits that `io` finds.
--- Assumes nothing.
+-- It puts the digits that `io` finds.
 use mathlib.Core.Path.{ap, _∙_}
 use native.Mathlib.Omega.{arith}
 use borrow.Author.Needs.{needs}

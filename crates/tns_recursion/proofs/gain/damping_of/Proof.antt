@@ -1,5 +1,4 @@
--- `tns_recursion::gain::damping_of` meets its contract: each return goes by the tests before it.
--- Assumes nothing.
+-- Each return goes by the tests before it.
 use mathlib.Core.Path.{_≡_}
 use mathlib.Core.Bool.{Bool, true, false}
 use Prim.Native.Nat.{ℕ}
@@ -50,7 +49,4 @@ returns-4 c =
     off (g .gain) (g .on) (g .weighting) (c .if1 .left)
 
 pub damping-of-spec : {M : Type 1} → statement M
-damping-of-spec = tie.close (tie.spec returns
-    returns-2
-    returns-3
-    returns-4)
+damping-of-spec = tie.close (tie.spec returns returns-2 returns-3 returns-4)

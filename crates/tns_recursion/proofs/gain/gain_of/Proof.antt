@@ -1,5 +1,4 @@
--- `tns_recursion::gain::gain_of` meets its contract.
--- Assumes nothing.
+-- An error of 0 is not divided by.
 use Rattle.tns_recursion.specs.Gain.{gainOf}
 use Rattle.tns_recursion.proofs.gain.gain_of.Statement.{statement}
 use Rattle.tns_recursion.proofs.gain.gain_of.Tie as tie
@@ -13,5 +12,4 @@ unfolding gainOf
 returns-2 c = rw (c .if1 .left)
 
 pub gain-of-spec : {M : Type 1} → statement M
-gain-of-spec = tie.close (tie.spec returns
-    returns-2)
+gain-of-spec = tie.close (tie.spec returns returns-2)

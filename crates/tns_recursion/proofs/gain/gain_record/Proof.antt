@@ -1,5 +1,4 @@
--- `tns_recursion::gain::gain_record` meets its contract: its three parts are their definitions'.
--- Assumes nothing.
+-- Its three parts are their definitions'.
 use mathlib.Core.Path.{_≡_}
 use mathlib.Core.Bool.{Bool}
 use Prim.Native.Nat.{ℕ}
@@ -22,7 +21,4 @@ returns c =
     (c .before .before .gain-of .ensures) (c .before .is-on .ensures) (c .damping-of .ensures)
 
 pub gain-record-spec : {M : Type 1} → statement M
-gain-record-spec = tie.close (tie.spec (λ c κs. search needs)
-    (λ c κs. search needs)
-    (λ c κs. search needs)
-    returns)
+gain-record-spec = tie.close (tie.spec (λ c κs. search needs) (λ c κs. search needs) (λ c κs. search needs) returns)

@@ -1,5 +1,4 @@
--- `tns_recursion::gain::is_on` meets its contract: each return goes by the test before it.
--- Assumes nothing.
+-- Each return goes by the test before it.
 use mathlib.Core.Path.{_≡_}
 use mathlib.Core.Bool.{Bool, true, false, not}
 use lib.Ieee.{Float, lt}
@@ -27,5 +26,4 @@ returns-2 c =
     not-above (g .gain) (g .flag) (c .if1 .left)
 
 pub is-on-spec : {M : Type 1} → statement M
-is-on-spec = tie.close (tie.spec returns
-    returns-2)
+is-on-spec = tie.close (tie.spec returns returns-2)

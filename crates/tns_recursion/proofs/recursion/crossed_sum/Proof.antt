@@ -1,5 +1,4 @@
--- `tns_recursion::recursion::crossed_sum` meets its contract. The invariant: the sum is the definition's of the products passed.
--- Assumes nothing.
+-- The invariant: the sum is the definition's of the products passed.
 use mathlib.Core.Path.{_≡_, refl, _∙_}
 use mathlib.Core.List.{List}
 use Prim.Native.Nat.{ℕ, _+_, _-_, _≤_}

@@ -1,5 +1,4 @@
--- `tns_recursion::recursion::next_row` meets its contract. The invariant: the places below n are those of the new row, place 0 is 1, place k is rc.
--- Assumes nothing.
+-- The invariant: the places below n are those of the new row, place 0 is 1, place k is rc.
 use mathlib.Core.Path.{_≡_, refl, _∙_, ap}
 use Prim.Native.Nat.{ℕ, _-_, _<_, _≤_}
 use native.Mathlib.Omega.{arith}

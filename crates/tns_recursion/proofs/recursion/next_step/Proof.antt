@@ -1,5 +1,4 @@
--- `tns_recursion::recursion::next_step` meets its contract.
--- Assumes nothing.
+-- The row and the error are those of the callees' reflection coefficient.
 use borrow.Author.Needs.{needs}
 use Rattle.tns_recursion.specs.Recursion.{stepped}
 use Rattle.tns_recursion.proofs.recursion.next_step.Statement.{statement}
@@ -10,6 +9,4 @@ unfolding stepped
 returns c = rw (c .before .next-row .ensures, c .before .before .before .reflected .ensures)
 
 pub next-step-spec : {M : Type 1} → statement M
-next-step-spec = tie.close (tie.spec (λ c κs. search needs)
-    (λ c κs. search needs)
-    returns)
+next-step-spec = tie.close (tie.spec (λ c κs. search needs) (λ c κs. search needs) returns)

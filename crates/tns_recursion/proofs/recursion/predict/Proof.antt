@@ -1,5 +1,4 @@
--- `tns_recursion::recursion::predict` meets its contract: each call is one step of the definition.
--- Assumes nothing.
+-- Each call is one step of the definition.
 use mathlib.Core.Path.{_≡_, _∙_, ap}
 use mathlib.Core.List.{List}
 use Prim.Native.Nat.{ℕ, suc}

@@ -1,5 +1,4 @@
--- `tns_recursion::recursion::reflected` meets its contract: a zero error is not divided by.
--- Assumes nothing.
+-- A zero error is not divided by.
 use borrow.Author.Needs.{needs}
 use Rattle.tns_recursion.specs.Recursion.{reflection}
 use Rattle.tns_recursion.proofs.recursion.reflected.Statement.{statement}
@@ -14,6 +13,4 @@ unfolding reflection
 returns-2 c = rw (c .if1 .left, c .before .before .crossed-sum .ensures)
 
 pub reflected-spec : {M : Type 1} → statement M
-reflected-spec = tie.close (tie.spec (λ c κs. search needs)
-    returns
-    returns-2)
+reflected-spec = tie.close (tie.spec (λ c κs. search needs) returns returns-2)

@@ -1,5 +1,4 @@
--- `tns_rows::duration::duration_of` meets its contract.
--- Assumes nothing.
+-- A code that is not 0 is the successor of one, which is how the definition takes it.
 use mathlib.Core.Path.{_≡_, refl, sym, ap}
 use Prim.Native.Nat.{ℕ, zero, suc}
 use borrow.Author.Needs.{needs}
@@ -16,5 +15,4 @@ returns-2 : tie.Need-returns-2
 returns-2 c = not-zero (c .before .args .code) (c .if1 .left)
 
 pub duration-of-spec : {M : Type 1} → statement M
-duration-of-spec = tie.close (tie.spec (λ c. search needs)
-    returns-2)
+duration-of-spec = tie.close (tie.spec (λ c. search needs) returns-2)

@@ -1,5 +1,4 @@
--- `tns_rows::duration::lpc_weighting` meets its contract: one law over the limit serves both durations.
--- Assumes nothing.
+-- One law over the limit serves both durations.
 use mathlib.Core.Path.{_≡_}
 use Prim.Native.Nat.{ℕ, _<_, _≤_}
 use native.Mathlib.Omega.{arith}
@@ -28,6 +27,4 @@ returns-2 c =
     from (kept (g .duration)) (g .nbits) (omega (arith, c .before .weighting-limit .ensures))
 
 pub lpc-weighting-spec : {M : Type 1} → statement M
-lpc-weighting-spec = tie.close (tie.spec (λ c κs. search needs)
-    returns
-    returns-2)
+lpc-weighting-spec = tie.close (tie.spec (λ c κs. search needs) returns returns-2)

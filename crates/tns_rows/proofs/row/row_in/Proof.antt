@@ -1,5 +1,4 @@
--- `tns_rows::row::row_in` meets its contract: each arm reads the row at its own bandwidth, and the last has zeros, which is no row of five.
--- Assumes nothing.
+-- Each arm reads the row at its own bandwidth, and the last has zeros, which is no row of five.
 use mathlib.Core.Path.{_≡_, sym, _∙_, ap}
 use mathlib.Core.List.{List, []}
 use Prim.Native.Nat.{ℕ, suc, _≤_, zero-le}

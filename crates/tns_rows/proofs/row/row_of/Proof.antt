@@ -1,5 +1,4 @@
--- `tns_rows::row::row_of` meets its contract: a duration has its own table.
--- Assumes nothing.
+-- A duration has its own table.
 use mathlib.Core.Path.{_≡_, _∙_}
 use mathlib.Core.List.{[]}
 use Prim.Native.Nat.{ℕ}
@@ -27,7 +26,9 @@ returns-2 c =
 
 pub row-of-spec : {M : Type 1} → statement M
 row-of-spec =
-    tie.close (tie.spec (λ c. search needs)
+    tie.close
+    (tie.spec
+    (λ c. search needs)
     (λ c κs. search needs)
     (λ c. search needs)
     (λ c κs. search needs)
