@@ -19,11 +19,11 @@ tns-cost κs a x y s t p q = itself (p .0) (q .0)
 
 -- the lines, the side data and the coefficients
 tns-encode-lines : DeterminedWith 3 tns-encode-kinds.ps tns-encode-kinds.r tns-encode-reads.Post (List Float) (λ κs s. s .1 .1 .1 .1 .0 .now)
-tns-encode-lines κs a x y s t p q = (itself (p .0) (q .0), itself (p .1 .0) (q .1 .0))
+tns-encode-lines κs a x y s t p q = (itself (p .answer) (q .answer), itself (p .lines) (q .lines))
 
 tns-encode-side : DeterminedWith 3 tns-encode-kinds.ps tns-encode-kinds.r tns-encode-reads.Post (List ℕ) (λ κs s. s .1 .1 .1 .1 .1 .0 .now)
-tns-encode-side κs a x y s t p q = (itself (p .0) (q .0), itself (p .1 .1 .0) (q .1 .1 .0))
+tns-encode-side κs a x y s t p q = (itself (p .answer) (q .answer), itself (p .side) (q .side))
 
 tns-encode-coefficients :
     DeterminedWith 3 tns-encode-kinds.ps tns-encode-kinds.r tns-encode-reads.Post (List Float) (λ κs s. s .1 .1 .1 .1 .1 .1 .0 .now)
-tns-encode-coefficients κs a x y s t p q = (itself (p .0) (q .0), itself (p .1 .1 .1 .0) (q .1 .1 .1 .0))
+tns-encode-coefficients κs a x y s t p q = (itself (p .answer) (q .answer), itself (p .coefficients) (q .coefficients))

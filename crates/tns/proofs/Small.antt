@@ -5,7 +5,9 @@ use Prim.Native.Nat.{ℕ, _^_, _≤_, _<_}
 use native.Mathlib.Omega.{arith}
 use lib.Ieee.{Float}
 use lib.ListN.{length, getD}
-use Rattle.tns_refusals.specs.Refusals.{Verdict, accepted, refused, refusedAt, noFault, placeIn, noBits, itsBits}
+use Rattle.tns_refusals.specs.Refusals.{numbered, placed, Verdict, accepted, refused, noFault, says, placeOf, ofFault, noBits, itsBits}
+use Rattle.tns_refusals.specs.declared.Refusal.{Refusal}
+use Rattle.tns_refusals.proofs.Eight.{of-eight}
 use Rattle.tns_refusals.proofs.Checks.{sides-by}
 use Rattle.tns_cost.specs.Cost.{costOf}
 use Rattle.tns_cost.proofs.Costs.{cost-by, counted-at-most}
@@ -15,14 +17,14 @@ use Rattle.tns_frames.proofs.Frames.{frames-by}
 use Rattle.tns_decode.specs.Decoder.{decodeChecks}
 use Rattle.tns_encode.specs.Encoder.{encodeVerdict, bitsVerdict, weightingIn}
 use Rattle.tns_encode.proofs.Reported.{reported-bits-at-most}
-use Rattle.tns.specs.Answers.{told}
+use Rattle.tns.specs.Answers.{answerFor}
 use Rattle.tns.specs.declared.Answer.{Answer}
 
 -- ---- places
 
-pub cost-place : (weighting filters : ℕ) (orders indices : List ℕ) → placeIn (costOf weighting filters orders indices) ≤ 15
+pub cost-place : (weighting filters : ℕ) (orders indices : List ℕ) → ofFault placeOf (costOf weighting filters orders indices) ≤ 15
 cost-place weighting filters orders indices =
-    cost-by (λ v. placeIn v ≤ 15) weighting filters orders indices
+    cost-by (λ v. ofFault placeOf v ≤ 15) weighting filters orders indices
     (omega arith)
     (omega arith)
     (λ place h. omega (arith, h))
@@ -32,18 +34,18 @@ cost-place weighting filters orders indices =
 
 -- what holds of each refusal that the decode call can give, and of an accepted one, holds of what it says
 decode-by : (P : Verdict (Unit {0}) → Type 0) (duration bandwidth filters : ℕ) (orders indices : List ℕ) (lines : ℕ)
-    → P (refused 1) → P (refused 2) → P (refused 3) → P (refused 4) → P (refused 5)
-    → ((place : ℕ) → place < 2 → P (refusedAt 6 place (getD orders place 0)))
-    → ((place : ℕ) → place < 16 → P (refusedAt 7 place (getD indices place 0)))
+    → P (refused (numbered 1)) → P (refused (numbered 2)) → P (refused (numbered 3)) → P (refused (numbered 4)) → P (refused (numbered 5))
+    → ((place : ℕ) → place < 2 → P (refused (placed 6 place (getD orders place 0))))
+    → ((place : ℕ) → place < 16 → P (refused (placed 7 place (getD indices place 0))))
     → P noFault → P (decodeChecks duration bandwidth filters orders indices lines)
 unfolding decodeChecks
 decode-by P duration bandwidth filters orders indices lines stops1 stops2 stops3 stops4 stops5 stops6 stops7 goes =
     frames-by P duration bandwidth lines _ stops1 stops2 stops3 (sides-by P filters orders indices noFault stops4 stops5 stops6 stops7 (λ sound. goes))
 
 pub decode-place : (duration bandwidth filters : ℕ) (orders indices : List ℕ) (lines : ℕ)
-    → placeIn (decodeChecks duration bandwidth filters orders indices lines) ≤ 15
+    → ofFault placeOf (decodeChecks duration bandwidth filters orders indices lines) ≤ 15
 decode-place duration bandwidth filters orders indices lines =
-    decode-by (λ v. placeIn v ≤ 15) duration bandwidth filters orders indices lines
+    decode-by (λ v. ofFault placeOf v ≤ 15) duration bandwidth filters orders indices lines
     (omega arith)
     (omega arith)
     (omega arith)
@@ -53,10 +55,15 @@ decode-place duration bandwidth filters orders indices lines =
     (λ place h. omega (arith, h))
     (omega arith)
 
-pub encode-place : (duration bandwidth bits : ℕ) (flag : Bool) (lines : List Float) → placeIn (bitsVerdict (encodeVerdict duration bandwidth bits flag lines)) ≤ 15
+pub encode-place : (duration bandwidth bits : ℕ) (flag : Bool) (lines : List Float) → ofFault placeOf (bitsVerdict (encodeVerdict duration bandwidth bits flag lines)) ≤ 15
 unfolding encodeVerdict
 encode-place duration bandwidth bits flag lines =
-    frames-by (λ v. placeIn (bitsVerdict v) ≤ 15) duration bandwidth (length lines) _ (omega arith) (omega arith) (omega arith) (omega arith)
+    frames-by (λ v. ofFault placeOf (bitsVerdict v) ≤ 15) duration bandwidth (length lines) _ (omega arith) (omega arith) (omega arith) (omega arith)
+
+-- ---- no refusal is told as an accepted call
+
+pub refused-not-0 : {A : Type 0} (bits : A → ℕ) (why : Refusal) → 0 < answerFor bits (refused (says why)) .refusal
+refused-not-0 bits why = of-eight why .has-number
 
 -- ---- all four numbers
 
@@ -71,20 +78,20 @@ pub fits : (answer : Answer) → Small answer → (answer .refusal < 2 ^ 16) × 
 fits answer s = (omega (arith, s .small-refusal), omega (arith, s .small-place), omega (arith, s .small-found), omega (arith, s .few-bits))
 
 module _ {A : Type 0} (bits : A → ℕ) where
-  by-number : (number : ℕ) → number ≤ 8 → Small (told bits (refused number))
+  by-number : (number : ℕ) → number ≤ 8 → Small (answerFor bits (refused (numbered number)))
   by-number number h = record { small-refusal = h; small-place = omega arith; small-found = omega arith; few-bits = omega arith }
 
-  at-place : (number place found : ℕ) → number ≤ 8 → place ≤ 15 → found ≤ 255 → Small (told bits (refusedAt number place found))
+  at-place : (number place found : ℕ) → number ≤ 8 → place ≤ 15 → found ≤ 255 → Small (answerFor bits (refused (placed number place found)))
   at-place number place found n p f = record { small-refusal = n; small-place = p; small-found = f; few-bits = omega arith }
 
-  with-bits : (a : A) → bits a ≤ 168 → Small (told bits (accepted a))
+  with-bits : (a : A) → bits a ≤ 168 → Small (answerFor bits (accepted a))
   with-bits a h = record { small-refusal = omega arith; small-place = omega arith; small-found = omega arith; few-bits = h }
 
 -- of lists that hold bytes
 module _ (orders indices : List ℕ) (order-bytes : (i : ℕ) → getD orders i 0 ≤ 255) (index-bytes : (i : ℕ) → getD indices i 0 ≤ 255) where
-  pub cost-small : (weighting filters : ℕ) → Small (told itsBits (costOf weighting filters orders indices))
+  pub cost-small : (weighting filters : ℕ) → Small (answerFor itsBits (costOf weighting filters orders indices))
   cost-small weighting filters =
-      cost-by (λ v. Small (told itsBits v)) weighting filters orders indices
+      cost-by (λ v. Small (answerFor itsBits v)) weighting filters orders indices
       (by-number itsBits 4 (omega arith))
       (by-number itsBits 5 (omega arith))
       (λ place h. at-place itsBits 6 place _ (omega arith) (omega (arith, h)) (order-bytes place))
@@ -92,9 +99,9 @@ module _ (orders indices : List ℕ) (order-bytes : (i : ℕ) → getD orders i 
       (by-number itsBits 8 (omega arith))
       (λ sound. with-bits itsBits _ (counted-at-most weighting filters orders indices sound))
 
-  pub decode-small : (duration bandwidth filters lines : ℕ) → Small (told noBits (decodeChecks duration bandwidth filters orders indices lines))
+  pub decode-small : (duration bandwidth filters lines : ℕ) → Small (answerFor noBits (decodeChecks duration bandwidth filters orders indices lines))
   decode-small duration bandwidth filters lines =
-      decode-by (λ v. Small (told noBits v)) duration bandwidth filters orders indices lines
+      decode-by (λ v. Small (answerFor noBits v)) duration bandwidth filters orders indices lines
       (by-number noBits 1 (omega arith))
       (by-number noBits 2 (omega arith))
       (by-number noBits 3 (omega arith))
@@ -104,10 +111,10 @@ module _ (orders indices : List ℕ) (order-bytes : (i : ℕ) → getD orders i 
       (λ place h. at-place noBits 7 place _ (omega arith) (omega (arith, h)) (index-bytes place))
       (with-bits noBits tt (omega arith))
 
-pub encode-small : (duration bandwidth bits : ℕ) (flag : Bool) (lines : List Float) → Small (told itsBits (bitsVerdict (encodeVerdict duration bandwidth bits flag lines)))
+pub encode-small : (duration bandwidth bits : ℕ) (flag : Bool) (lines : List Float) → Small (answerFor itsBits (bitsVerdict (encodeVerdict duration bandwidth bits flag lines)))
 unfolding encodeVerdict
 encode-small duration bandwidth bits flag lines =
-    frames-by (λ v. Small (told itsBits (bitsVerdict v))) duration bandwidth (length lines) _
+    frames-by (λ v. Small (answerFor itsBits (bitsVerdict v))) duration bandwidth (length lines) _
     (by-number itsBits 1 (omega arith))
     (by-number itsBits 2 (omega arith))
     (by-number itsBits 3 (omega arith))

@@ -1,3 +1,3 @@
--- What a reader has to believe of the exported functions: how a verdict of document 01 is told in four numbers.
+-- What a reader has to believe of the exported functions: how a verdict of document 01 is told in four numbers, and what `tns_encode` leaves.
 pub mod Answers
-pub mod Sides
+pub mod Encoding

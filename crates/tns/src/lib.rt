@@ -13,15 +13,14 @@ use tns_side::record_of;
 ghost use mathlib.Core.Path.{_≡_};
 ghost use Prim.Native.Nat.{_≤_};
 ghost use lib.ListN.{length};
-ghost use Rattle.tns_refusals.specs.Refusals.{placeIn, noBits, itsBits, says};
+ghost use Rattle.tns_refusals.specs.Refusals.{accepted, refused, placeOf, noBits, itsBits, says};
 ghost use Rattle.tns_cost.specs.Cost.{costOf};
 ghost use Rattle.tns_decode.specs.Decoder.{decodeChecks, spectrumDecoded};
 ghost use Rattle.tns_rows.specs.Durations.{durationOf};
 ghost use Rattle.tns_rows.specs.Bands.{rowOf};
-ghost use Rattle.tns_encode.specs.Encoder.{encodeVerdict, bitsVerdict, sideIn, spectrumEncoded};
-ghost use Rattle.tns_exact.specs.Exact.{IfAccepted, NearExact};
-ghost use Rattle.tns.specs.Answers.{told, accepts};
-ghost use Rattle.tns.specs.Sides.{recordAfter, coefficientsAfter};
+ghost use Rattle.tns_encode.specs.Encoder.{encodeVerdict};
+ghost use Rattle.tns.specs.Answers.{answerFor};
+ghost use Rattle.tns.specs.Encoding.{lent, TnsEncodes};
 
 // What a call answers. Refusal 0 says that it is accepted, and any other is document 01's number.
 // Place and found are those of refusals 6 and 7, and 0 else. Bits are those of an accepted cost, and
@@ -35,7 +34,7 @@ pub struct Answer {
 }
 
 fn accepted(bits: u16) -> Answer
-    ensures { λ r. ⌜ r ≡ accepts bits ⌝ }
+    ensures { λ r. ⌜ r ≡ answerFor itsBits (accepted bits) ⌝ }
 {
     Answer {
         refusal: 0,
@@ -46,8 +45,8 @@ fn accepted(bits: u16) -> Answer
 }
 
 fn refused(why: Refusal) -> Answer
-    requires { ⌜ placeIn (says {A = Unit {0}} why) ≤ 15 ⌝ }
-    ensures { λ r. ⌜ r ≡ told noBits (says why) ⌝ }
+    requires { ⌜ placeOf (says why) ≤ 15 ⌝ }
+    ensures { λ r. ⌜ r ≡ answerFor noBits (refused (says why)) ⌝ }
 {
     Answer {
         refusal: why.number() as u16,
@@ -67,8 +66,8 @@ pub extern "C" fn tns_decode(
     indices: &[u8],
     lines: &mut [f32],
 ) -> Answer
-    ensures { λ r. ⌜ r ≡ told noBits (decodeChecks duration bandwidth filters (now (orders .entry)) (now (indices .entry)) (length (now (lines .entry)))) ⌝ }
-    ensures { λ _. ⌜ now (lines .exit) ≡ spectrumDecoded duration bandwidth filters (now (orders .entry)) (now (indices .entry)) (now (lines .entry)) ⌝ }
+    ensures answer { λ r. ⌜ r ≡ answerFor noBits (decodeChecks duration bandwidth filters (now (orders .entry)) (now (indices .entry)) (length (now (lines .entry)))) ⌝ }
+    ensures lines { λ _. ⌜ now (lines .exit) ≡ spectrumDecoded duration bandwidth filters (now (orders .entry)) (now (indices .entry)) (now (lines .entry)) ⌝ }
 {
     let answer = decode(duration, bandwidth, filters, orders, indices, lines);
     match answer {
@@ -90,12 +89,7 @@ pub extern "C" fn tns_encode(
     side: &mut [u8; 20],
     coefficients: &mut [f32; 16],
 ) -> Answer
-    ensures { λ r. ⌜ r ≡ told itsBits (bitsVerdict (encodeVerdict duration bandwidth bits flag (now (lines .entry)))) ⌝ }
-    ensures { λ _. ⌜ now (lines .exit) ≡ spectrumEncoded duration bandwidth bits flag (now (lines .entry)) ⌝ }
-    ensures { λ _. ⌜ now (side .exit) ≡ recordAfter (encodeVerdict duration bandwidth bits flag (now (lines .entry))) (now (side .entry)) ⌝ }
-    ensures { λ _. ⌜ now (coefficients .exit) ≡ coefficientsAfter (encodeVerdict duration bandwidth bits flag (now (lines .entry))) (now (coefficients .entry)) ⌝ }
-    ensures { λ _. ⌜ IfAccepted (encodeVerdict duration bandwidth bits flag (now (lines .entry))) (NearExact (rowOf (durationOf duration) bandwidth) (sideIn (encodeVerdict duration bandwidth bits flag (now (lines .entry)))) (now (lines .entry)) (now (lines .exit))) ⌝ }
-    ensures { λ r. ⌜ r .bits ≤ 168 ⌝ }
+    ensures { λ r. ⌜ TnsEncodes (encodeVerdict duration bandwidth bits flag (now (lines .entry))) (rowOf (durationOf duration) bandwidth) (lent (now (lines .entry)) (now (side .entry)) (now (coefficients .entry))) (lent (now (lines .exit)) (now (side .exit)) (now (coefficients .exit))) r ⌝ }
 {
     let encoded = encode(duration, bandwidth, bits, flag, lines);
     let answer = encoded.answer;
@@ -113,8 +107,8 @@ pub extern "C" fn tns_encode(
 // The cost of a frame's side data in bits, as `tns_cost::cost`.
 #[no_mangle]
 pub extern "C" fn tns_cost(weighting: u8, filters: u8, orders: &[u8], indices: &[u8]) -> Answer
-    ensures { λ r. ⌜ r ≡ told itsBits (costOf weighting filters (now (orders .entry)) (now (indices .entry))) ⌝ }
-    ensures { λ r. ⌜ r .bits ≤ 168 ⌝ }
+    ensures answer { λ r. ⌜ r ≡ answerFor itsBits (costOf weighting filters (now (orders .entry)) (now (indices .entry))) ⌝ }
+    ensures few { λ r. ⌜ r .bits ≤ 168 ⌝ }
 {
     let answer = cost(weighting, filters, orders, indices);
     match answer {

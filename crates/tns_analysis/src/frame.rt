@@ -80,8 +80,8 @@ fn side_bits(side: SideData) -> u16
 
 // The side data of a frame, and their bits. `flag` is the near-Nyquist flag.
 pub fn analyse_frame(lines: &[f32], row: Row, flag: bool, weighting: u8) -> Found
-    ensures { λ r. ⌜ r .side ≡ sideOf row (now (lines .entry)) flag weighting ⌝ }
-    ensures { λ r. ⌜ r .bits ≡ bitsOf (sideOf row (now (lines .entry)) flag weighting) ⌝ }
+    ensures side { λ r. ⌜ r .side ≡ sideOf row (now (lines .entry)) flag weighting ⌝ }
+    ensures bits { λ r. ⌜ r .bits ≡ bitsOf (sideOf row (now (lines .entry)) flag weighting) ⌝ }
 {
     let side = side_of(lines, row, flag, weighting);
     let bits = side_bits(side);

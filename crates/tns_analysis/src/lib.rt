@@ -23,8 +23,8 @@ pub struct Analysed {
 
 // The analysis of any band. `flag` is the near-Nyquist flag.
 pub fn analyse(lines: &[f32], band: Band, flag: bool, weighting: u8) -> Analysed
-    ensures { λ r. ⌜ r .gain ≡ filterRecord band (now (lines .entry)) flag weighting ⌝ }
-    ensures { λ r. ⌜ r .reflections ≡ reflectionsOf band (now (lines .entry)) flag weighting ⌝ }
+    ensures gain { λ r. ⌜ r .gain ≡ filterRecord band (now (lines .entry)) flag weighting ⌝ }
+    ensures reflections { λ r. ⌜ r .reflections ≡ reflectionsOf band (now (lines .entry)) flag weighting ⌝ }
 {
     let r = autocorrelated(lines, band);
     let p = predict(r);

@@ -19,10 +19,9 @@ no-lines room frame bytes = sym (take-nil room)
 pub its-record : (bytes : List ℕ) (from k : ℕ) → from ≡ 20 * k → take (from + 20 - from) (drop from bytes) ≡ record20 bytes k
 its-record bytes from k e = let n : from + 20 - from ≡ 20 = omega arith in rw (n, e)
 
-pub one-more : (room frame k : ℕ) (bytes : List ℕ)
-    → after room [] (linesText frame bytes k ++ lineText (frame + k) (lineOf (record20 bytes k))) ≡ after room [] (linesText frame bytes (k + 1))
+pub one-more : (frame k : ℕ) (bytes : List ℕ) → linesText frame bytes k ++ lineText (frame + k) (lineOf (record20 bytes k)) ≡ linesText frame bytes (k + 1)
 unfolding linesText
-one-more room frame k bytes = ap (λ (n : ℕ). after room [] (linesText frame bytes n)) (sym (add-one k))
+one-more frame k bytes = ap (linesText frame bytes) (sym (add-one k))
 
 lines-at-most : (frame : ℕ) (bytes : List ℕ) (k : ℕ) → length (linesText frame bytes k) ≤ 81 * k
 unfolding linesText

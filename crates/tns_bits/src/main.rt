@@ -27,8 +27,8 @@ fn put_lines(frame: u64, bytes: &[u8], count: usize, out: &mut [u8]) -> usize
     requires { ⌜ 20 * count ≤ length (now bytes) ⌝ }
     requires { ⌜ 81 * count ≤ length (now out) ⌝ }
     requires { ⌜ frame + count < 18446744073709551616 ⌝ }
-    ensures { λ r. ⌜ Counts r (now (out .exit)) ⌝ }
-    ensures { λ r. ⌜ take r (now (out .exit)) ≡ linesText frame (now (bytes .entry)) count ⌝ }
+    ensures counts { λ r. ⌜ Counts r (now (out .exit)) ⌝ }
+    ensures lines { λ r. ⌜ take r (now (out .exit)) ≡ linesText frame (now (bytes .entry)) count ⌝ }
 {
     let mut at = 0;
     let mut from = 0usize;
@@ -62,8 +62,8 @@ fn answer(input: &mut [u8], frame: u64, read: usize, output: &mut [u8]) -> Stand
     requires { ⌜ 16000 ≤ length (now input) ⌝ }
     requires { ⌜ 65536 ≡ length (now output) ⌝ }
     requires { ⌜ frame < 9223372036854775808 ⌝ }
-    ensures { λ r. ⌜ (r .frame ≡ frame + read / 20) × (r .held ≡ read % 20) ⌝ }
-    ensures { λ r. ⌜ take (r .held) (now (input .exit)) ≡ take (r .held) (drop (read / 20 * 20) (now (input .entry))) ⌝ }
+    ensures standing { λ r. ⌜ (r .frame ≡ frame + read / 20) × (r .held ≡ read % 20) ⌝ }
+    ensures held { λ r. ⌜ take (r .held) (now (input .exit)) ≡ take (r .held) (drop (read / 20 * 20) (now (input .entry))) ⌝ }
 {
     let records = read / 20;
     let whole = records * 20;

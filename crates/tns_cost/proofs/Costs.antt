@@ -6,7 +6,7 @@ use Prim.Native.Nat.{ℕ, zero, suc, _+_, _*_, _^_, _≤_, _<_}
 use lib.Dec.{ltb}
 use native.Mathlib.Omega.{arith}
 use lib.ListN.{length, getD, take, drop, length-take}
-use Rattle.tns_refusals.specs.Refusals.{Verdict, accepted, refused, refusedAt, bitsIn, itsBits, lowestOver, SoundSide}
+use Rattle.tns_refusals.specs.Refusals.{numbered, placed, Verdict, accepted, refused, bitsIn, itsBits, lowestOver, SoundSide}
 use Rattle.tns_refusals.specs.declared.Over.the-variants.{Nowhere}
 use Rattle.tns_refusals.proofs.Checks.{check-by, sides-by}
 use Rattle.tns_refusals.proofs.Sides.{none-over, none-further}
@@ -50,10 +50,10 @@ counted-at-most weighting filters orders indices sound =
 -- ---- what the cost call says
 
 -- what holds of each refusal that it can give, and of the bits of sound side data, holds of what it says
-pub cost-by : (P : Verdict ℕ → Type 0) (weighting filters : ℕ) (orders indices : List ℕ) → P (refused 4) → P (refused 5)
-    → ((place : ℕ) → place < 2 → P (refusedAt 6 place (getD orders place 0)))
-    → ((place : ℕ) → place < 16 → P (refusedAt 7 place (getD indices place 0)))
-    → P (refused 8) → (SoundSide filters orders indices → P (accepted (countedBits weighting filters orders indices)))
+pub cost-by : (P : Verdict ℕ → Type 0) (weighting filters : ℕ) (orders indices : List ℕ) → P (refused (numbered 4)) → P (refused (numbered 5))
+    → ((place : ℕ) → place < 2 → P (refused (placed 6 place (getD orders place 0))))
+    → ((place : ℕ) → place < 16 → P (refused (placed 7 place (getD indices place 0))))
+    → P (refused (numbered 8)) → (SoundSide filters orders indices → P (accepted (countedBits weighting filters orders indices)))
     → P (costOf weighting filters orders indices)
 unfolding costOf
 cost-by P weighting filters orders indices stops4 stops5 stops6 stops7 stops8 goes =

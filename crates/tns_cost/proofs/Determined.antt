@@ -1,6 +1,7 @@
 -- Any two results that a contract allows for one input coincide: the law of `tns_refusals`, cited for each public function of this crate.
 use mathlib.Core.Path.{_≡_, refl, ap}
-use Rattle.tns_refusals.proofs.Determined.{Determined, coincide, itself, answerBack, refused-back}
+use Rattle.tns_refusals.proofs.Eight.{of-eight}
+use Rattle.tns_refusals.proofs.Determined.{Determined, coincide, itself, answerBack}
 use Rattle.tns_cost.specs.Cost.{costSays}
 use Rattle.tns_cost.specs.Records.{Line, short, costs, recordSays}
 use Rattle.tns_cost.specs.declared.budget.CostAnswer.{CostAnswer}
@@ -21,7 +22,7 @@ filter-bits κs a x y s t p q = itself (p .0) (q .0)
 
 costBack : (answer : CostAnswer) → answerBack Bits Refused (costSays answer) ≡ answer
 costBack (Bits bits) = refl
-costBack (Refused why) = refused-back Bits Refused why
+costBack (Refused why) = ap Refused (of-eight why .back)
 
 abbrev answerOf : Line → RecordAnswer
 answerOf short = Short

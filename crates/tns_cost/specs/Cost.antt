@@ -4,7 +4,7 @@ use Prim.Native.Nat.{ℕ, zero, suc, _+_, _/_}
 use lib.Dec.{ltb}
 use lib.ListN.{take, drop}
 use Rattle.tns_tables.specs.Tables.{ofOrder, orderBits, coefBits, cellsFrom}
-use Rattle.tns_refusals.specs.Refusals.{Verdict, accepted, check, sideChecks, says}
+use Rattle.tns_refusals.specs.Refusals.{Verdict, accepted, refused, check, sideChecks, says}
 use Rattle.tns_cost.specs.declared.budget.CostAnswer.{CostAnswer}
 use Rattle.tns_cost.specs.declared.budget.CostAnswer.the-variants.{Bits, Refused}
 
@@ -40,4 +40,4 @@ costOf weighting filters orders indices =
 -- what an answer of the cost call says
 abbrev pub costSays : CostAnswer → Verdict ℕ
 costSays (Bits bits) = accepted bits
-costSays (Refused why) = says why
+costSays (Refused why) = refused (says why)

@@ -34,8 +34,8 @@ fn filter_cost(weighting: u8, order: u8, indices: &[u8]) -> u32
 
 // The bits of one filter, rounded up by itself, with the one bit that says whether it is on.
 pub fn filter_bits(weighting: u8, order: u8, indices: &[u8]) -> u16
-    ensures { λ r. ⌜ r ≡ filterBits weighting order (now (indices .entry)) ⌝ }
-    ensures { λ r. ⌜ (order ≤ 8 → r ≤ 84) ⌝ }
+    ensures bits { λ r. ⌜ r ≡ filterBits weighting order (now (indices .entry)) ⌝ }
+    ensures few { λ r. ⌜ (order ≤ 8 → r ≤ 84) ⌝ }
 {
     let cost = filter_cost(weighting, order, indices);
     1 + ((cost + 2047) / 2048) as u16
@@ -59,8 +59,8 @@ fn counted_bits(weighting: u8, filters: u8, orders: &[u8], indices: &[u8]) -> u1
 // The cost of a frame's side data, for any numbers and lists of any lengths: refusals 4 to 8, or the
 // bits.
 pub fn cost(weighting: u8, filters: u8, orders: &[u8], indices: &[u8]) -> CostAnswer
-    ensures { λ r. ⌜ costSays r ≡ costOf weighting filters (now (orders .entry)) (now (indices .entry)) ⌝ }
-    ensures { λ r. ⌜ bitsIn itsBits (costSays r) ≤ 168 ⌝ }
+    ensures answer { λ r. ⌜ costSays r ≡ costOf weighting filters (now (orders .entry)) (now (indices .entry)) ⌝ }
+    ensures few { λ r. ⌜ bitsIn itsBits (costSays r) ≤ 168 ⌝ }
 {
     let side = check_side(filters, orders, indices);
     match side {

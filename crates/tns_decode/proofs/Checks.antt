@@ -1,22 +1,17 @@
 -- Laws of the decoder's checks: what a refusal of the frame or of the side data makes of the call, and what is known once neither is refused.
-use mathlib.Core.Path.{_≡_, refl, sym, _∙_}
+use mathlib.Core.Path.{_≡_, sym, _∙_}
 use mathlib.Core.List.{List}
 use Prim.Native.Nat.{ℕ}
 use lib.Ieee.{Float}
 use lib.ListN.{length}
-use Rattle.tns_refusals.specs.Refusals.{Verdict, accepted, noFault, says, sideChecks}
-use Rattle.tns_refusals.specs.declared.Refusal.{Refusal}
-use Rattle.tns_refusals.proofs.Sides.{settle, by-refusal, refused-by-checks, passed-by-checks}
+use Rattle.tns_refusals.specs.Refusals.{Fault, Verdict, accepted, refused, noFault, sideChecks}
+use Rattle.tns_refusals.proofs.Sides.{settle, refused-by-checks, passed-by-checks}
 use Rattle.tns_rows.specs.Durations.{durationOf}
 use Rattle.tns_rows.specs.Bands.{rowOf}
 use Rattle.tns_frames.specs.Frames.{frameChecks, frameOf}
 use Rattle.tns_rows.specs.declared.row.Row.{Row}
 use Rattle.tns_frames.proofs.Frames.{frames-settle}
-use Rattle.tns_decode.specs.Decoder.{decodeChecks, unlessRefused, spectrumDecoded, rowDecoded}
-
--- a refused call leaves what was there
-refused-leaves : (why : Refusal) (after before : List Float) → before ≡ unlessRefused (says why) after before
-refused-leaves why after before = by-refusal (λ v. before ≡ unlessRefused v after before) (λ n. refl) (λ n p f. refl) why
+use Rattle.tns_decode.specs.Decoder.{decodeChecks, spectrumDecoded, rowDecoded}
 
 module _ (duration bandwidth filters : ℕ) (orders indices : List ℕ) where
   module _ (lines : ℕ) where
@@ -34,7 +29,7 @@ module _ (duration bandwidth filters : ℕ) (orders indices : List ℕ) where
     unfolding decodeChecks frame
     checks-are = frames-settle duration bandwidth lines (sideChecks filters orders indices noFault)
 
-    pub frame-refused : (why : Refusal) → says why ≡ frameOf duration bandwidth lines → says why ≡ decodeChecks duration bandwidth filters orders indices lines
+    pub frame-refused : (why : Fault) → refused why ≡ frameOf duration bandwidth lines → refused why ≡ decodeChecks duration bandwidth filters orders indices lines
     frame-refused why e = sym (checks-are ∙ refused-by-checks frame own why (e ∙ frame-is) (sideChecks filters orders indices noFault))
 
     -- past the frame's checks the row is the frame's, and the side data decide
@@ -47,10 +42,10 @@ module _ (duration bandwidth filters : ℕ) (orders indices : List ℕ) where
 
   -- what a refused and an accepted call leave
   module _ (lines : List Float) where
-    pub refused-spectrum : (why : Refusal) → says why ≡ decodeChecks duration bandwidth filters orders indices (length lines)
+    pub refused-spectrum : (why : Fault) → refused why ≡ decodeChecks duration bandwidth filters orders indices (length lines)
         → lines ≡ spectrumDecoded duration bandwidth filters orders indices lines
     unfolding spectrumDecoded
-    refused-spectrum why e = rw (sym e) (refused-leaves why _ lines)
+    refused-spectrum why e = rw (sym e)
 
     pub accepted-spectrum : noFault ≡ decodeChecks duration bandwidth filters orders indices (length lines)
         → rowDecoded (rowOf (durationOf duration) bandwidth) filters orders indices lines ≡ spectrumDecoded duration bandwidth filters orders indices lines

@@ -1,9 +1,10 @@
 -- Any two results that a contract allows for one input coincide: the law of `tns_refusals`, cited for `decode`, and with it what is left in the
 -- lines that were lent. The logic has one NaN, so of a line that is a NaN the bits are left open.
-use mathlib.Core.Path.{_≡_, refl}
+use mathlib.Core.Path.{_≡_, refl, ap}
 use mathlib.Core.List.{List}
 use lib.Ieee.{Float}
-use Rattle.tns_refusals.proofs.Determined.{DeterminedWith, coincide, itself, answerBack, refused-back}
+use Rattle.tns_refusals.proofs.Eight.{of-eight}
+use Rattle.tns_refusals.proofs.Determined.{DeterminedWith, coincide, itself, answerBack}
 use Rattle.tns_decode.specs.Decoder.{decodeSays}
 use Rattle.tns_decode.specs.declared.DecodeAnswer.{DecodeAnswer}
 use Rattle.tns_decode.specs.declared.DecodeAnswer.the-variants.{Decoded, Refused}
@@ -12,7 +13,7 @@ use Rattle.tns_decode.proofs.decode.Reads as decode-reads
 
 decodeBack : (answer : DecodeAnswer) → answerBack (λ (u : Unit {0}). Decoded) Refused (decodeSays answer) ≡ answer
 decodeBack Decoded = refl
-decodeBack (Refused why) = refused-back (λ (u : Unit {0}). Decoded) Refused why
+decodeBack (Refused why) = ap Refused (of-eight why .back)
 
 decode : DeterminedWith 3 decode-kinds.ps decode-kinds.r decode-reads.Post (List Float) (λ κs s. s .1 .1 .1 .1 .1 .0 .now)
 decode κs a x y s t p q = (coincide decodeSays (answerBack (λ u. Decoded) Refused) decodeBack (p .0) (q .0), itself (p .1) (q .1))

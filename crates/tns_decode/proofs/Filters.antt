@@ -1,58 +1,61 @@
--- What none, one and two counted filters make of a spectrum, from the definition of counted filters on their bands.
+-- What none, one and two counted filters make of a spectrum, and what filters of order 0 do: nothing.
 use mathlib.Core.Path.{_≡_, refl, sym, _∙_, ap}
-use mathlib.Core.List.{List, map}
+use mathlib.Core.List.{List, [], _∷_}
 use Prim.Native.Nat.{ℕ, zero, suc, _≤_}
 use native.Mathlib.Nat.{le-of-suc-le-suc, not-suc-le-zero}
 use lib.Ieee.{Float}
 use lib.ListN.{getD, take, drop, length}
 use lib.Seq.{getD-drop}
-use Rattle.tns_rows.specs.Bands.{inside, within}
 use Rattle.tns_rows.specs.declared.row.Row.{Row}
 use Rattle.tns_rows.proofs.Bands.{SoundRow}
-use Rattle.tns_lattices.specs.DecoderLattice.{linesDecoded, statesAfter}
-use Rattle.tns_lattices.proofs.DecoderIdle.{order-0-within}
-use Rattle.tns_decode.specs.Decoder.{decoderCoefficient, bandsDecoded, rowDecoded}
-use Rattle.tns_lattices.specs.States.{atRest}
+use Rattle.tns_lattices.specs.Lattice.{atRest}
+use Rattle.tns_lattices.specs.DecoderLattice.{lineDecoded}
+use Rattle.tns_lattices.proofs.Idle.{decoder-idle}
+use Rattle.tns_filters.specs.Filters.{Filter, rowFiltered, FilteredIn}
+use Rattle.tns_filters.proofs.Filters.{none-filtered, one-filtered, two-filtered, idle-filter}
+use Rattle.tns_decode.specs.Decoder.{decoderFilter, countedFilters, rowDecoded}
+
+-- as many filters as are counted
+pub counted-length : (filters : ℕ) (orders indices : List ℕ) → length (countedFilters filters orders indices) ≡ filters
+unfolding countedFilters
+counted-length zero orders indices = refl
+counted-length (suc filters) orders indices = ap suc (counted-length filters (drop 1 orders) (drop 8 indices))
 
 module _ (row : Row) (orders indices : List ℕ) (lines : List Float) where
+  -- the first filter, and the second
+  abbrev first : Filter
+  first = decoderFilter (getD orders 0 0) (take 8 indices)
+
+  abbrev second : Filter
+  second = decoderFilter (getD orders 1 0) (take 8 (drop 8 indices))
+
   pub none-decoded : lines ≡ rowDecoded row 0 orders indices lines
-  unfolding rowDecoded bandsDecoded
-  none-decoded = refl
+  unfolding rowDecoded countedFilters
+  none-decoded = none-filtered lineDecoded row lines
 
-  -- the spectrum and the states after the first filter
-  abbrev pub firstDone : List Float
-  firstDone = within (row .first) (linesDecoded (map decoderCoefficient (take 8 indices)) (getD orders 0 0) atRest) lines
+  pub one-decoded : (after left : List Float) → FilteredIn lineDecoded (row .first) first atRest lines after left → left ≡ rowDecoded row 1 orders indices lines
+  unfolding rowDecoded countedFilters
+  one-decoded after left a = one-filtered lineDecoded row lines first after left a
 
-  abbrev pub firstStates : List Float
-  firstStates = statesAfter (map decoderCoefficient (take 8 indices)) (getD orders 0 0) atRest (inside (row .first) lines)
-
-  pub one-decoded : firstDone ≡ rowDecoded row 1 orders indices lines
-  unfolding rowDecoded bandsDecoded
-  one-decoded = refl
-
-  pub two-decoded : within (row .second) (linesDecoded (map decoderCoefficient (take 8 (drop 8 indices))) (getD (drop 1 orders) 0 0) firstStates) firstDone
-      ≡ rowDecoded row 2 orders indices lines
-  unfolding rowDecoded bandsDecoded
-  two-decoded = refl
+  pub two-decoded : (after left end result : List Float) → FilteredIn lineDecoded (row .first) first atRest lines after left
+      → FilteredIn lineDecoded (row .second) second after left end result → result ≡ rowDecoded row 2 orders indices lines
+  unfolding rowDecoded countedFilters
+  two-decoded after left end result a b = two-filtered lineDecoded row lines first second after left end result a b ∙ ap both (sym (getD-drop 1 orders 0 0))
+    where
+      both : ℕ → List Float
+      both order = rowFiltered lineDecoded row (first ∷ decoderFilter order (take 8 (drop 8 indices)) ∷ []) lines
 
   -- where the counted filters have order 0, nothing changes
-  module _ (sound : SoundRow row (length lines)) (first : getD orders 0 0 ≡ 0) where
-    first-idle : lines ≡ firstDone
-    first-idle =
-        let q = map decoderCoefficient (take 8 indices) in
-        order-0-within (row .first) q atRest lines (sound .first-fits .order)
-        ∙ ap (λ (o : ℕ). within (row .first) (linesDecoded q o atRest) lines) (sym first)
+  module _ (sound : SoundRow row (length lines)) (first-idle : getD orders 0 0 ≡ 0) where
+    first-stays : FilteredIn lineDecoded (row .first) first atRest lines atRest lines
+    first-stays = idle-filter lineDecoded decoder-idle (row .first) first first-idle atRest lines (sound .first-fits .order)
 
     pub one-idle : lines ≡ rowDecoded row 1 orders indices lines
-    one-idle = first-idle ∙ one-decoded
+    one-idle = one-decoded atRest lines first-stays
 
     pub all-idle : getD orders 1 0 ≡ 0 → (filters : ℕ) → filters ≤ 2 → lines ≡ rowDecoded row filters orders indices lines
-    all-idle second zero h = none-decoded
-    all-idle second (suc zero) h = one-idle
-    all-idle second (suc (suc zero)) h =
-        let q = map decoderCoefficient (take 8 (drop 8 indices)) in
-        first-idle
-        ∙ order-0-within (row .second) q firstStates firstDone (sound .second-fits .order)
-        ∙ ap (λ (o : ℕ). within (row .second) (linesDecoded q o firstStates) firstDone) (sym (getD-drop 1 orders 0 0 ∙ second))
-        ∙ two-decoded
-    all-idle second (suc (suc (suc filters))) h = absurd (not-suc-le-zero (le-of-suc-le-suc (le-of-suc-le-suc h)))
+    all-idle second-idle zero h = none-decoded
+    all-idle second-idle (suc zero) h = one-idle
+    all-idle second-idle (suc (suc zero)) h =
+        two-decoded atRest lines atRest lines first-stays (idle-filter lineDecoded decoder-idle (row .second) second second-idle atRest lines (sound .second-fits .order))
+    all-idle second-idle (suc (suc (suc filters))) h = absurd (not-suc-le-zero (le-of-suc-le-suc (le-of-suc-le-suc h)))

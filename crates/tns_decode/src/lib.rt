@@ -12,12 +12,12 @@ use tns_rows::Row;
 ghost use mathlib.Core.Path.{_≡_};
 ghost use mathlib.Core.List.{map};
 ghost use Prim.Native.Nat.{_≤_};
-ghost use lib.ListN.{length, getD, take};
+ghost use lib.ListN.{length};
 ghost use Rattle.tns_refusals.specs.Refusals.{SoundSide};
-ghost use Rattle.tns_rows.specs.Bands.{inside, within};
 ghost use Rattle.tns_rows.proofs.Bands.{Fits, SoundRow};
-ghost use Rattle.tns_lattices.specs.DecoderLattice.{linesDecoded, statesAfter};
-ghost use Rattle.tns_decode.specs.Decoder.{decoderCoefficient, rowDecoded, decodeChecks, spectrumDecoded, decodeSays};
+ghost use Rattle.tns_lattices.specs.DecoderLattice.{lineDecoded};
+ghost use Rattle.tns_filters.specs.Filters.{FilteredIn};
+ghost use Rattle.tns_decode.specs.Decoder.{decoderCoefficient, decoderFilter, rowDecoded, decodeChecks, spectrumDecoded, decodeSays};
 
 // The answer of `decode`.
 pub enum DecodeAnswer {
@@ -57,8 +57,7 @@ fn filter_decoded(
 ) -> [f32; 8]
     requires { ⌜ Fits band (length (now lines)) ⌝ }
     requires { ⌜ (order ≤ 8) × (length (now indices) ≡ 8) ⌝ }
-    ensures { λ r. ⌜ r ≡ statesAfter (map decoderCoefficient (now (indices .entry))) order states (inside band (now (lines .entry))) ⌝ }
-    ensures { λ _. ⌜ now (lines .exit) ≡ within band (linesDecoded (map decoderCoefficient (now (indices .entry))) order states) (now (lines .entry)) ⌝ }
+    ensures { λ r. ⌜ FilteredIn lineDecoded band (decoderFilter order (now (indices .entry))) states (now (lines .entry)) r (now (lines .exit)) ⌝ }
 {
     if order == 0 {
         return states;
@@ -70,7 +69,7 @@ fn filter_decoded(
 }
 
 // The counted filters, each in its band, the states carried from the first to the second.
-fn row_decoded(row: Row, filters: u8, orders: &[u8], indices: &[u8], lines: &mut [f32])
+fn filters_decoded(row: Row, filters: u8, orders: &[u8], indices: &[u8], lines: &mut [f32])
     requires { ⌜ SoundRow row (length (now lines)) ⌝ }
     requires { ⌜ SoundSide filters (now orders) (now indices) ⌝ }
     ensures { λ _. ⌜ now (lines .exit) ≡ rowDecoded row filters (now (orders .entry)) (now (indices .entry)) (now (lines .entry)) ⌝ }
@@ -85,8 +84,8 @@ fn row_decoded(row: Row, filters: u8, orders: &[u8], indices: &[u8], lines: &mut
     filter_decoded(row.second, orders[1], &indices[8..16], states, lines);
 }
 
-// The same, passing over filters that all have order 0.
-fn acting_decoded(row: Row, filters: u8, orders: &[u8], indices: &[u8], lines: &mut [f32])
+// The same, with nothing done where every counted filter has order 0.
+fn row_decoded(row: Row, filters: u8, orders: &[u8], indices: &[u8], lines: &mut [f32])
     requires { ⌜ SoundRow row (length (now lines)) ⌝ }
     requires { ⌜ SoundSide filters (now orders) (now indices) ⌝ }
     ensures { λ _. ⌜ now (lines .exit) ≡ rowDecoded row filters (now (orders .entry)) (now (indices .entry)) (now (lines .entry)) ⌝ }
@@ -99,7 +98,7 @@ fn acting_decoded(row: Row, filters: u8, orders: &[u8], indices: &[u8], lines: &
             return;
         }
     }
-    row_decoded(row, filters, orders, indices, lines);
+    filters_decoded(row, filters, orders, indices, lines);
 }
 
 // Decodes a spectrum in place. Any numbers and lists may be given: a frame or side data that document
@@ -112,8 +111,8 @@ pub fn decode(
     indices: &[u8],
     lines: &mut [f32],
 ) -> DecodeAnswer
-    ensures { λ r. ⌜ decodeSays r ≡ decodeChecks duration bandwidth filters (now (orders .entry)) (now (indices .entry)) (length (now (lines .entry))) ⌝ }
-    ensures { λ _. ⌜ now (lines .exit) ≡ spectrumDecoded duration bandwidth filters (now (orders .entry)) (now (indices .entry)) (now (lines .entry)) ⌝ }
+    ensures answer { λ r. ⌜ decodeSays r ≡ decodeChecks duration bandwidth filters (now (orders .entry)) (now (indices .entry)) (length (now (lines .entry))) ⌝ }
+    ensures lines { λ _. ⌜ now (lines .exit) ≡ spectrumDecoded duration bandwidth filters (now (orders .entry)) (now (indices .entry)) (now (lines .entry)) ⌝ }
 {
     let frame = check_frame(duration, bandwidth, lines.len());
     match frame {
@@ -123,7 +122,7 @@ pub fn decode(
             match side {
                 SideAnswer::Refused(why) => DecodeAnswer::Refused(why),
                 SideAnswer::Sound => {
-                    acting_decoded(row, filters, orders, indices, lines);
+                    row_decoded(row, filters, orders, indices, lines);
                     DecodeAnswer::Decoded
                 }
             }

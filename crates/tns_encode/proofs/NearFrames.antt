@@ -15,7 +15,7 @@ use Rattle.tns_side.proofs.Limits.{absent-within}
 use Rattle.tns_exact.specs.Exact.{NearExact}
 use Rattle.tns_exact.proofs.NearFrames.{OfTable, quantized-of-table, absent-of-table, filters-near}
 use Rattle.tns_analysis.specs.FrameSide.{hasSecond, filterOf, secondOf, sideOf}
-use Rattle.tns_encode.specs.Encoder.{rowEncoded, filteredBy}
+use Rattle.tns_exact.specs.SideFilters.{filteredBy}
 use Rattle.tns_analysis.proofs.Limits.{filter-within}
 
 filter-of-table : (b : Band) (lines : List Float) (flag : Bool) (weighting : ℕ) → OfTable (filterOf b lines flag weighting)
@@ -31,8 +31,8 @@ second-of-table row lines flag weighting = either (hasSecond row)
     either false = absent-of-table absent-within
 
 pub frame-near : (d : Duration) (bandwidth : ℕ) (flag : Bool) (weighting : ℕ) (xs : List Float) → SoundRow (rowOf d bandwidth) (length xs) → ((j : ℕ) → T (fits binary32 (getD xs j nan)))
-    → NearExact (rowOf d bandwidth) (sideOf (rowOf d bandwidth) xs flag weighting) xs (rowEncoded (rowOf d bandwidth) xs flag weighting)
-unfolding sideOf rowEncoded filteredBy
+    → NearExact (rowOf d bandwidth) (sideOf (rowOf d bandwidth) xs flag weighting) xs (filteredBy (sideOf (rowOf d bandwidth) xs flag weighting) (rowOf d bandwidth) xs)
+unfolding sideOf
 frame-near d bandwidth flag weighting xs sound fit =
     let row = rowOf d bandwidth in
     filters-near d bandwidth weighting (cond (hasSecond row) 2 1) (filterOf (row .first) xs flag weighting) (secondOf row xs flag weighting)

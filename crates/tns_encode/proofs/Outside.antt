@@ -1,5 +1,5 @@
--- Document 01, "Band rows": lines outside the bands never change and affect nothing. The laws are of the encode call's spectrum and side data, for
--- every call, and stand at the end; a refused call changes no line at all.
+-- Document 01, "Band rows": lines outside the bands never change and affect nothing. The laws of any call that filters its bands, of the encode
+-- call; and its analysis, too, depends on the lines of the bands alone.
 use mathlib.Core.Path.{_≡_, refl, sym, _∙_, ap}
 use mathlib.Core.Bool.{Bool}
 use mathlib.Core.List.{List}
@@ -8,35 +8,34 @@ use native.Mathlib.Omega.{arith}
 use lib.Ieee.{Float, nan}
 use lib.ListN.{length, getD}
 use lib.Seq.{ext-getD}
-use Rattle.tns_refusals.specs.Refusals.{Verdict, accepted, refused, refusedAt, noFault}
-use Rattle.tns_refusals.proofs.Sides.{settle}
-use Rattle.tns_rows.specs.Durations.{kept, durationOf}
-use Rattle.tns_rows.specs.Bands.{rowOf, lastStop, inside}
+use Rattle.tns_lists.specs.Places.{part}
+use Rattle.tns_refusals.specs.Refusals.{Verdict, accepted}
+use Rattle.tns_rows.specs.Durations.{numbersOf, durationOf}
+use Rattle.tns_rows.specs.Bands.{rowOf, bandOf, lastStop, inside}
 use Rattle.tns_rows.specs.declared.row.Band.{Band}
 use Rattle.tns_rows.specs.declared.row.Row.{Row}
-use Rattle.tns_rows.proofs.Bands.{Fits, SoundRow}
-use Rattle.tns_rows.proofs.Apart.{Outside, inside-length, inside-at, row-apart, early-outside, late-outside}
-use Rattle.tns_frames.specs.Frames.{frameChecks, frameOf}
-use Rattle.tns_frames.proofs.Frames.{sound-row, frames-settle}
-use Rattle.tns_lags.specs.Autocorrelation.{autocorrelation, part}
+use Rattle.tns_rows.proofs.Bands.{Fits, SoundRow, Cut, row-cut}
+use Rattle.tns_rows.proofs.Apart.{Outside, inside-length, inside-at}
+use Rattle.tns_frames.specs.Frames.{frameChecks}
+use Rattle.tns_frames.proofs.Frames.{accepted-row, same-result}
+use Rattle.tns_lattices.specs.EncoderLattice.{lineEncoded}
+use Rattle.tns_filters.proofs.Calls as calls
+use Rattle.tns_lags.specs.Autocorrelation.{autocorrelation}
 use Rattle.tns_analysis.specs.Analysis.{filterRecord, reflectionsOf}
-use Rattle.tns_lattices.specs.States.{atRest}
-use Rattle.tns_lattices.specs.EncoderLattice.{linesEncoded, statesAfter}
-use Rattle.tns_lattices.proofs.TwoBands.{two-length, two-outside, first-inside, second-inside}
 use Rattle.tns_side.specs.declared.SideData.{SideData}
+use Rattle.tns_exact.specs.SideFilters.{filtersIn, filteredBy}
 use Rattle.tns_analysis.specs.FrameSide.{filterOf, secondOf, sideOf}
-use Rattle.tns_encode.specs.Encoder.{filteredBy, rowEncoded, weightingIn, encodeVerdict, unlessRefused, spectrumEncoded}
-use Rattle.tns_encode.proofs.Frames.{CutWithin, BandsCut, cut-row}
+use Rattle.tns_encode.specs.Encoder.{weightingIn, encodeVerdict, spectrumEncoded}
 
 -- ---- the analysis of a band depends on its own lines alone
 
-module _ (b : Band) (xs ys : List Float) (long : length xs ≡ length ys) (cut : CutWithin b (length xs)) (agree : inside b xs ≡ inside b ys) where
+module _ (b : Band) (xs ys : List Float) (long : length xs ≡ length ys) (cut : Cut b) (end : b .stop ≤ length xs) (agree : inside b xs ≡ inside b ys) where
   -- a part of the band
   same-part : (p q : ℕ) → b .start ≤ p → p ≤ q → q ≤ b .stop → part p q xs ≡ part p q ys
   same-part p q from order to =
       let piece : Band = record { start = p; «first_cut» = 0; «second_cut» = 0; stop = q } in
-      let fx : Fits piece (length xs) = record { order = order; end = omega (arith, cut .end) } in
-      let fy : Fits piece (length ys) = record { order = order; end = omega (arith, cut .end) } in
+      let fx : Fits piece (length xs) = record { order = order; end = omega arith } in
+      let fy : Fits piece (length ys) = record { order = order; end = omega arith } in
       ext-getD nan (part p q xs) (part p q ys) (inside-length piece xs fx ∙ sym (inside-length piece ys fy))
       (λ j h.
       let k : j < q - p = omega (arith, inside-length piece xs fx) in
@@ -55,7 +54,7 @@ module _ (b : Band) (xs ys : List Float) (long : length xs ≡ length ys) (cut :
         same-part (b .«second_cut») (b .stop) (omega (arith, cut .lowest, cut .middle)) (omega (arith, cut .highest)) (omega arith),
       )
 
-  pub same-filter : (flag : Bool) (weighting : ℕ) → filterOf b xs flag weighting ≡ filterOf b ys flag weighting
+  same-filter : (flag : Bool) (weighting : ℕ) → filterOf b xs flag weighting ≡ filterOf b ys flag weighting
   unfolding filterOf reflectionsOf filterRecord
   same-filter flag weighting = rw same-autocorrelation
 
@@ -65,116 +64,58 @@ module _ (duration bandwidth nbits : ℕ) (flag : Bool) where
   abbrev row : Row
   row = rowOf (durationOf duration) bandwidth
 
-  abbrev weighting : ℕ
-  weighting = weightingIn duration nbits
-
   abbrev after : List Float → List Float
   after lines = spectrumEncoded duration bandwidth nbits flag lines
 
-  frame : ℕ → Verdict (Unit {0})
-  frame n = frameChecks duration bandwidth n noFault
+  abbrev verdict : List Float → Verdict SideData
+  verdict lines = encodeVerdict duration bandwidth nbits flag lines
 
-  frame-by : (n : ℕ) (v : Verdict (Unit {0})) → frame n ≡ v → frameOf duration bandwidth n ≡ settle v (accepted row)
-  unfolding frameOf frame
-  frame-by n v e = frames-settle duration bandwidth n (accepted row) ∙ ap (λ (v : Verdict (Unit {0})). settle v (accepted row)) e
+  counted : (s : SideData) → length (filtersIn s) ≡ 2
+  counted s = refl
 
-  verdict-by : (lines : List Float) (v : Verdict (Unit {0})) → frame (length lines) ≡ v
-      → encodeVerdict duration bandwidth nbits flag lines ≡ settle v (accepted (sideOf row lines flag weighting))
-  unfolding encodeVerdict frame
-  verdict-by lines v e =
-      frames-settle duration bandwidth (length lines) (accepted (sideOf row lines flag weighting))
-      ∙ ap (λ (v : Verdict (Unit {0})). settle v (accepted (sideOf row lines flag weighting))) e
+  abbrev side : List Float → SideData
+  side lines = sideOf row lines flag (weightingIn duration nbits)
 
-  after-by : (lines : List Float) (v : Verdict (Unit {0})) → frame (length lines) ≡ v
-      → after lines ≡ unlessRefused (settle v (accepted (sideOf row lines flag weighting))) (rowEncoded row lines flag weighting) lines
-  unfolding spectrumEncoded
-  after-by lines v e = ap (λ (w : Verdict SideData). unlessRefused w (rowEncoded row lines flag weighting) lines) (verdict-by lines v e)
-
-  -- what holds of the lines that a call finds, and of those that an accepted call leaves, holds of those that it leaves
-  by-verdict : (lines : List Float) (P : List Float → Type 0) → P lines → (SoundRow row (length lines) → P (rowEncoded row lines flag weighting)) → P (after lines)
-  by-verdict lines P found left = cases (frame (length lines)) refl
-    where
-      cases : (v : Verdict (Unit {0})) → frame (length lines) ≡ v → P (after lines)
-      cases (accepted u) e = rw (after-by lines (accepted u) e) (left (sound-row duration bandwidth (length lines) row (frame-by (length lines) (accepted u) e)))
-      cases (refused n) e = rw (after-by lines (refused n) e) found
-      cases (refusedAt n p f) e = rw (after-by lines (refusedAt n p f) e) found
+  sound : (lines : List Float) (s : SideData) → verdict lines ≡ accepted s → SoundRow row (length lines)
+  unfolding encodeVerdict
+  sound lines s e = accepted-row duration bandwidth (length lines) (accepted (side lines)) s e
 
   -- a call leaves as many lines as it finds
   pub as-many-lines : (lines : List Float) → length (after lines) ≡ length lines
-  unfolding rowEncoded filteredBy sideOf
-  as-many-lines lines =
-      by-verdict lines (λ l. length l ≡ length lines) refl
-      (λ sound. two-length row _ _ _ _ lines sound)
+  unfolding spectrumEncoded filteredBy
+  as-many-lines lines = calls.as-many-lines lineEncoded (durationOf duration) bandwidth verdict filtersIn 2 counted sound lines
 
   -- lines outside the bands never change
-  pub outside-never-changes : (lines : List Float) (i : ℕ) → Outside (row .first) i → Outside (row .second) i → getD (after lines) i nan ≡ getD lines i nan
-  unfolding rowEncoded filteredBy sideOf
-  outside-never-changes lines i o p =
-      by-verdict lines (λ l. getD l i nan ≡ getD lines i nan) refl
-      (λ sound. two-outside row _ _ _ _ lines sound i o p)
+  pub outside-never-changes : (lines : List Float) (i : ℕ) → ((k : ℕ) → k < 2 → Outside (bandOf row k) i) → getD (after lines) i nan ≡ getD lines i nan
+  unfolding spectrumEncoded filteredBy
+  outside-never-changes lines i outside = calls.outside-never-changes lineEncoded (durationOf duration) bandwidth verdict filtersIn 2 counted sound lines i outside
 
-  pub early-lines-stay : (lines : List Float) (i : ℕ) → i < kept (durationOf duration) .firstLine → getD (after lines) i nan ≡ getD lines i nan
-  early-lines-stay lines i h =
-      outside-never-changes lines i (early-outside (durationOf duration) bandwidth 0 i h) (early-outside (durationOf duration) bandwidth 1 i h)
+  -- so no line before the duration's first line does, and none from the row's last stop on
+  pub early-lines-stay : (lines : List Float) (i : ℕ) → i < numbersOf (durationOf duration) .firstLine → getD (after lines) i nan ≡ getD lines i nan
+  unfolding spectrumEncoded filteredBy
+  early-lines-stay lines i h = calls.early-lines-stay lineEncoded (durationOf duration) bandwidth verdict filtersIn 2 counted sound lines i h
 
   pub late-lines-stay : (lines : List Float) (i : ℕ) → lastStop row ≤ i → getD (after lines) i nan ≡ getD lines i nan
-  late-lines-stay lines i h =
-      outside-never-changes lines i (late-outside (durationOf duration) bandwidth 0 i h) (late-outside (durationOf duration) bandwidth 1 i h)
+  unfolding spectrumEncoded filteredBy
+  late-lines-stay lines i h = calls.late-lines-stay lineEncoded (durationOf duration) bandwidth verdict filtersIn 2 counted sound lines i h
 
   -- And they affect nothing: of two spectra of one length that agree inside the bands, a call gives the same answer and side data, and leaves lines
   -- that agree inside the bands.
-  module _ (xs ys : List Float) (long : length xs ≡ length ys) (first : inside (row .first) xs ≡ inside (row .first) ys)
-      (second : inside (row .second) xs ≡ inside (row .second) ys) where
-    same-frame : frame (length xs) ≡ frame (length ys)
-    same-frame = ap frame long
-
-    same-first : BandsCut row (length xs) → filterOf (row .first) xs flag weighting ≡ filterOf (row .first) ys flag weighting
-    same-first cut = same-filter (row .first) xs ys long (cut .first-cut) first flag weighting
-
-    same-second : BandsCut row (length xs) → secondOf row xs flag weighting ≡ secondOf row ys flag weighting
-    unfolding secondOf
-    same-second cut = rw (same-filter (row .second) xs ys long (cut .second-cut) second flag weighting)
-
-    same-side : BandsCut row (length xs) → sideOf row xs flag weighting ≡ sideOf row ys flag weighting
-    unfolding sideOf
-    same-side cut = rw (same-first cut, same-second cut)
-
-    same-encoded : BandsCut row (length xs) → SoundRow row (length xs) → SoundRow row (length ys)
-        → (inside (row .first) (rowEncoded row xs flag weighting) ≡ inside (row .first) (rowEncoded row ys flag weighting))
-        × (inside (row .second) (rowEncoded row xs flag weighting) ≡ inside (row .second) (rowEncoded row ys flag weighting))
-    unfolding rowEncoded filteredBy sideOf
-    same-encoded cut sx sy =
-        let apart = row-apart (durationOf duration) bandwidth in
-        let a = filterOf (row .first) ys flag weighting in
-        let b = secondOf row ys flag weighting in
-        rw (same-first cut, same-second cut) (
-          first-inside row (a .coefficients) (a .order) (b .coefficients) (b .order) xs sx apart ∙ ap (linesEncoded (a .coefficients) (a .order) atRest) first ∙ sym (first-inside row (a .coefficients) (a .order) (b .coefficients) (b .order) ys sy apart),
-          second-inside row (a .coefficients) (a .order) (b .coefficients) (b .order) xs sx apart
-              ∙ ap (λ (l : List Float). linesEncoded (b .coefficients) (b .order) (statesAfter (a .coefficients) (a .order) atRest l) (inside (row .second) xs)) first
-              ∙ ap (linesEncoded (b .coefficients) (b .order) (statesAfter (a .coefficients) (a .order) atRest (inside (row .first) ys))) second
-              ∙ sym (second-inside row (a .coefficients) (a .order) (b .coefficients) (b .order) ys sy apart),
+  module _ (xs ys : List Float) (long : length xs ≡ length ys) (agree : (k : ℕ) → k < 2 → inside (bandOf row k) xs ≡ inside (bandOf row k) ys) where
+    same-side : lastStop row ≤ length xs → side xs ≡ side ys
+    unfolding sideOf secondOf
+    same-side enough =
+        let cut = row-cut (durationOf duration) bandwidth in
+        let w = weightingIn duration nbits in
+        rw (
+          same-filter (row .first) xs ys long (cut .0) (omega arith) (agree 0 (omega arith)) flag w,
+          same-filter (row .second) xs ys long (cut .1) (omega arith) (agree 1 (omega arith)) flag w,
         )
 
-    pub same-verdict : encodeVerdict duration bandwidth nbits flag xs ≡ encodeVerdict duration bandwidth nbits flag ys
-    same-verdict = cases (frame (length ys)) refl
-      where
-        cases : (v : Verdict (Unit {0})) → frame (length ys) ≡ v → encodeVerdict duration bandwidth nbits flag xs ≡ encodeVerdict duration bandwidth nbits flag ys
-        cases (accepted u) e =
-            verdict-by xs (accepted u) (same-frame ∙ e)
-            ∙ ap accepted (same-side (cut-row duration bandwidth (length xs) row (frame-by (length xs) (accepted u) (same-frame ∙ e))))
-            ∙ sym (verdict-by ys (accepted u) e)
-        cases (refused n) e = verdict-by xs (refused n) (same-frame ∙ e) ∙ sym (verdict-by ys (refused n) e)
-        cases (refusedAt n p f) e = verdict-by xs (refusedAt n p f) (same-frame ∙ e) ∙ sym (verdict-by ys (refusedAt n p f) e)
+    pub same-verdict : verdict xs ≡ verdict ys
+    unfolding encodeVerdict
+    same-verdict = ap (λ (n : ℕ). frameChecks duration bandwidth n (accepted (side xs))) long ∙ same-result duration bandwidth (length ys) (side xs) (side ys) (λ enough. same-side (omega arith))
 
-    pub same-lines : (inside (row .first) (after xs) ≡ inside (row .first) (after ys)) × (inside (row .second) (after xs) ≡ inside (row .second) (after ys))
-    same-lines = cases (frame (length ys)) refl
-      where
-        cases : (v : Verdict (Unit {0})) → frame (length ys) ≡ v
-            → (inside (row .first) (after xs) ≡ inside (row .first) (after ys)) × (inside (row .second) (after xs) ≡ inside (row .second) (after ys))
-        cases (accepted u) e =
-            let ex = frame-by (length xs) (accepted u) (same-frame ∙ e) in
-            let ey = frame-by (length ys) (accepted u) e in
-            rw (after-by xs (accepted u) (same-frame ∙ e), after-by ys (accepted u) e)
-            (same-encoded (cut-row duration bandwidth (length xs) row ex) (sound-row duration bandwidth (length xs) row ex) (sound-row duration bandwidth (length ys) row ey))
-        cases (refused n) e = rw (after-by xs (refused n) (same-frame ∙ e), after-by ys (refused n) e) (first, second)
-        cases (refusedAt n p f) e = rw (after-by xs (refusedAt n p f) (same-frame ∙ e), after-by ys (refusedAt n p f) e) (first, second)
+    pub same-lines : (k : ℕ) → k < 2 → inside (bandOf row k) (after xs) ≡ inside (bandOf row k) (after ys)
+    unfolding spectrumEncoded filteredBy
+    same-lines k h = calls.outside-affects-nothing lineEncoded (durationOf duration) bandwidth verdict filtersIn 2 counted sound xs ys same-verdict agree k h

@@ -8,21 +8,19 @@ use lib.Dec.{ltb}
 use borrow.Author.Tests.{le-ltb, eq-eqb}
 use lib.Ieee.{Float}
 use lib.ListN.{length, length-append}
-use Rattle.tns_refusals.specs.Refusals.{Verdict, accepted, bitsIn, itsBits, check, sideChecks, lowestOver, SoundSide}
+use Rattle.tns_refusals.specs.Refusals.{Verdict, accepted, check, sideChecks, lowestOver, SoundSide}
 use Rattle.tns_refusals.specs.declared.Over.the-variants.{Nowhere}
 use Rattle.tns_index.specs.Quantizer.{indexOf}
 use Rattle.tns_cost.specs.Cost.{costOf, countedBits}
 use Rattle.tns_cost.proofs.Costs.{counted-at-most}
 use Rattle.tns_index.proofs.Indices.{index-at-most}
-use Rattle.tns_rows.specs.Durations.{Kept, kept, durationOf, weightingOf}
-use Rattle.tns_rows.specs.Bands.{rowOf}
+use Rattle.tns_rows.specs.Durations.{durationOf, weightingOf, numbersOf, DurationNumbers}
 use Rattle.tns_rows.specs.declared.row.Band.{Band}
 use Rattle.tns_rows.specs.declared.row.Row.{Row}
-use Rattle.tns_frames.proofs.Frames.{frames-by}
 use Rattle.tns_analysis.specs.Analysis.{reflectionsOf}
 use Rattle.tns_side.specs.Quantized.{quantizedOf, absent}
 use Rattle.tns_analysis.specs.FrameSide.{hasSecond, filterOf, secondOf, sideOf}
-use Rattle.tns_encode.specs.Encoder.{weightingIn, encodeVerdict, bitsVerdict}
+use Rattle.tns_encode.specs.Encoder.{weightingIn}
 use Rattle.tns_side.specs.Side.{ordersIn, indicesIn, bitsOf}
 use Rattle.tns_analysis.proofs.Limits.{filter-within, second-within}
 
@@ -92,7 +90,7 @@ unfolding sideChecks
 sound-passes filters orders indices s next =
     rw (eq-eqb (length orders) 2 (s .two-orders), eq-eqb (length indices) 16 (s .sixteen-indices), le-ltb 2 filters (s .count-at-most-2), s .orders-at-most-8, s .indices-at-most-16)
 
-weighting-at-most-1 : (d : Kept) (nbits : ℕ) → weightingOf d nbits ≤ 1
+weighting-at-most-1 : (d : DurationNumbers) (nbits : ℕ) → weightingOf d nbits ≤ 1
 unfolding weightingOf
 weighting-at-most-1 d nbits = either (ltb nbits (d .weightingLimit))
   where
@@ -108,7 +106,7 @@ costs weighting filters orders indices s w =
 
 its-weighting : (duration nbits : ℕ) (row : Row) (lines : List Float) (flag : Bool) → sideOf row lines flag (weightingIn duration nbits) .weighting ≤ 1
 unfolding sideOf
-its-weighting duration nbits row lines flag = weighting-at-most-1 (kept (durationOf duration)) nbits
+its-weighting duration nbits row lines flag = weighting-at-most-1 (numbersOf (durationOf duration)) nbits
 
 -- the cost door gives the reported side data the reported bits
 pub reported-bits : (duration nbits : ℕ) (row : Row) (lines : List Float) (flag : Bool) →
@@ -117,13 +115,3 @@ pub reported-bits : (duration nbits : ℕ) (row : Row) (lines : List Float) (fla
 reported-bits duration nbits row lines flag =
     let s = sideOf row lines flag (weightingIn duration nbits) in
     costs (s .weighting) (s .filters) (ordersIn s) (indicesIn s) (reported-sound row lines flag (weightingIn duration nbits)) (its-weighting duration nbits row lines flag)
-
--- an answer has at most 168 bits
-pub encode-at-most : (duration bandwidth nbits : ℕ) (flag : Bool) (lines : List Float) → bitsIn itsBits (bitsVerdict (encodeVerdict duration bandwidth nbits flag lines)) ≤ 168
-unfolding encodeVerdict
-encode-at-most duration bandwidth nbits flag lines =
-    frames-by (λ v. bitsIn itsBits (bitsVerdict v) ≤ 168) duration bandwidth (length lines) _
-    (omega arith)
-    (omega arith)
-    (omega arith)
-    (reported-bits-at-most (rowOf (durationOf duration) bandwidth) lines flag (weightingIn duration nbits))

@@ -1,5 +1,6 @@
-// The encode call: it checks a frame, has it analysed, and filters its bands in the caller's own
-// spectrum.
+// The encode call. A frame goes through it in the order of this file: its checks and its weighting in
+// `encode`, its analysis in `row_encoded`, then both filters in the caller's own spectrum, each over
+// the lines of its band.
 use tns_analysis::analyse_frame;
 use tns_frames::FrameAnswer;
 use tns_frames::check_frame;
@@ -14,16 +15,17 @@ use tns_side::SideData;
 ghost use mathlib.Core.Path.{_≡_};
 ghost use Prim.Native.Nat.{_≤_};
 ghost use lib.ListN.{length};
-ghost use Rattle.tns_refusals.specs.Refusals.{accepted, says, bitsIn, itsBits};
+ghost use Rattle.tns_refusals.specs.Refusals.{accepted, refused, says};
 ghost use Rattle.tns_rows.specs.Durations.{durationOf};
-ghost use Rattle.tns_rows.specs.Bands.{inside, within, rowOf};
+ghost use Rattle.tns_rows.specs.Bands.{rowOf};
 ghost use Rattle.tns_rows.proofs.Bands.{Fits, SoundRow};
-ghost use Rattle.tns_lattices.specs.EncoderLattice.{linesEncoded, statesAfter};
+ghost use Rattle.tns_lattices.specs.EncoderLattice.{lineEncoded};
+ghost use Rattle.tns_filters.specs.Filters.{filterWith, FilteredIn};
 ghost use Rattle.tns_side.specs.Side.{bitsOf, noFilter, noSide};
-ghost use Rattle.tns_exact.specs.Exact.{IfAccepted, NearExact};
-ghost use Rattle.tns_analysis.specs.FrameSide.{sideOf};
-ghost use Rattle.tns_encode.specs.Encoder.{filteredBy, rowEncoded, encodeVerdict, bitsVerdict, sideIn, encodeSays, spectrumEncoded};
 ghost use Rattle.tns_side.specs.Limits.{Reported};
+ghost use Rattle.tns_exact.specs.SideFilters.{filteredBy};
+ghost use Rattle.tns_analysis.specs.FrameSide.{sideOf};
+ghost use Rattle.tns_encode.specs.Encoder.{encodeVerdict, encodeSays, Encodes};
 
 // The answer of `encode`: the bits of the side data, or why there are none.
 pub enum EncodeAnswer {
@@ -37,25 +39,64 @@ pub struct Encoded {
     pub side: SideData,
 }
 
-// One filter, in its band of the whole spectrum. It answers the states after it.
-fn filter_encoded(
-    band: Band,
-    q: [f32; 8],
-    order: u8,
-    states: [f32; 8],
-    lines: &mut [f32],
-) -> [f32; 8]
-    requires { ⌜ Fits band (length (now lines)) ⌝ }
-    requires { ⌜ order ≤ 8 ⌝ }
-    ensures { λ r. ⌜ r ≡ statesAfter q order states (inside band (now (lines .entry))) ⌝ }
-    ensures { λ _. ⌜ now (lines .exit) ≡ within band (linesEncoded q order states) (now (lines .entry)) ⌝ }
+// Encodes a spectrum in place. Any numbers may be given: a frame that document 01 refuses is refused
+// by number, leaves every line as it was, and has no side data. `flag` is the near-Nyquist flag.
+pub fn encode(duration: u8, bandwidth: u8, nbits: u64, flag: bool, lines: &mut [f32]) -> Encoded
+    ensures { λ r. ⌜ Encodes (encodeVerdict duration bandwidth nbits flag (now (lines .entry))) (rowOf (durationOf duration) bandwidth) (now (lines .entry)) (now (lines .exit)) r ⌝ }
 {
-    if order == 0 {
-        return states;
+    let frame = check_frame(duration, bandwidth, lines.len());
+    match frame {
+        FrameAnswer::Refused(why) => refused(why),
+        FrameAnswer::Sound(row) => {
+            let weighting = lpc_weighting(duration_of(duration), nbits);
+            row_encoded(row, flag, weighting, lines)
+        }
     }
-    let start = band.start;
-    let stop = band.stop;
-    band_encoded(q, order, states, &mut lines[start..stop])
+}
+
+fn no_filter() -> Quantized
+    ensures { λ r. ⌜ r ≡ noFilter ⌝ }
+{
+    Quantized {
+        coefficients: [0.0; 8],
+        indices: [0; 8],
+        order: 0,
+    }
+}
+
+// What a refused call gives beside the refusal: nothing.
+fn refused(why: Refusal) -> Encoded
+    ensures answer { λ r. ⌜ encodeSays (r .answer) ≡ refused (says why) ⌝ }
+    ensures side { λ r. ⌜ r .side ≡ noSide ⌝ }
+{
+    let first = no_filter();
+    let second = no_filter();
+    let side = SideData {
+        weighting: 0,
+        filters: 0,
+        first,
+        second,
+    };
+    Encoded {
+        answer: EncodeAnswer::Refused(why),
+        side,
+    }
+}
+
+// A sound frame: the bits and the side data of its filters, and its bands filtered.
+fn row_encoded(row: Row, flag: bool, weighting: u8, lines: &mut [f32]) -> Encoded
+    requires { ⌜ SoundRow row (length (now lines)) ⌝ }
+    ensures answer { λ r. ⌜ encodeSays (r .answer) ≡ accepted (bitsOf (sideOf row (now (lines .entry)) flag weighting)) ⌝ }
+    ensures side { λ r. ⌜ r .side ≡ sideOf row (now (lines .entry)) flag weighting ⌝ }
+    ensures lines { λ _. ⌜ now (lines .exit) ≡ filteredBy (sideOf row (now (lines .entry)) flag weighting) row (now (lines .entry)) ⌝ }
+{
+    let found = analyse_frame(lines, row, flag, weighting);
+    let side = found.side;
+    two_encoded(row, side, lines);
+    Encoded {
+        answer: EncodeAnswer::Bits(found.bits),
+        side,
+    }
 }
 
 // Both filters, each in its band, the states carried from the first to the second.
@@ -72,65 +113,22 @@ fn two_encoded(row: Row, side: SideData, lines: &mut [f32])
     filter_encoded(row.second, p, second.order, states, lines);
 }
 
-// A sound frame: the bits and the side data of its filters, and its bands filtered.
-fn row_encoded(row: Row, flag: bool, weighting: u8, lines: &mut [f32]) -> Encoded
-    requires { ⌜ SoundRow row (length (now lines)) ⌝ }
-    ensures { λ r. ⌜ encodeSays (r .answer) ≡ accepted (bitsOf (sideOf row (now (lines .entry)) flag weighting)) ⌝ }
-    ensures { λ r. ⌜ r .side ≡ sideOf row (now (lines .entry)) flag weighting ⌝ }
-    ensures { λ _. ⌜ now (lines .exit) ≡ rowEncoded row (now (lines .entry)) flag weighting ⌝ }
+// One filter, in its band of the whole spectrum. It answers the states after it.
+fn filter_encoded(
+    band: Band,
+    q: [f32; 8],
+    order: u8,
+    states: [f32; 8],
+    lines: &mut [f32],
+) -> [f32; 8]
+    requires { ⌜ Fits band (length (now lines)) ⌝ }
+    requires { ⌜ order ≤ 8 ⌝ }
+    ensures { λ r. ⌜ FilteredIn lineEncoded band (filterWith q order) states (now (lines .entry)) r (now (lines .exit)) ⌝ }
 {
-    let found = analyse_frame(lines, row, flag, weighting);
-    let side = found.side;
-    two_encoded(row, side, lines);
-    Encoded {
-        answer: EncodeAnswer::Bits(found.bits),
-        side,
+    if order == 0 {
+        return states;
     }
-}
-
-fn no_filter() -> Quantized
-    ensures { λ r. ⌜ r ≡ noFilter ⌝ }
-{
-    Quantized {
-        coefficients: [0.0; 8],
-        indices: [0; 8],
-        order: 0,
-    }
-}
-
-fn refused(why: Refusal) -> Encoded
-    ensures { λ r. ⌜ encodeSays (r .answer) ≡ says why ⌝ }
-    ensures { λ r. ⌜ r .side ≡ noSide ⌝ }
-{
-    let first = no_filter();
-    let second = no_filter();
-    let side = SideData {
-        weighting: 0,
-        filters: 0,
-        first,
-        second,
-    };
-    Encoded {
-        answer: EncodeAnswer::Refused(why),
-        side,
-    }
-}
-
-// Encodes a spectrum in place. Any numbers may be given: a frame that document 01 refuses is refused
-// by number, leaves every line as it was, and has no side data.
-pub fn encode(duration: u8, bandwidth: u8, nbits: u64, flag: bool, lines: &mut [f32]) -> Encoded
-    ensures { λ r. ⌜ encodeSays (r .answer) ≡ bitsVerdict (encodeVerdict duration bandwidth nbits flag (now (lines .entry))) ⌝ }
-    ensures { λ r. ⌜ r .side ≡ sideIn (encodeVerdict duration bandwidth nbits flag (now (lines .entry))) ⌝ }
-    ensures { λ _. ⌜ now (lines .exit) ≡ spectrumEncoded duration bandwidth nbits flag (now (lines .entry)) ⌝ }
-    ensures { λ r. ⌜ IfAccepted (encodeSays (r .answer)) (NearExact (rowOf (durationOf duration) bandwidth) (r .side) (now (lines .entry)) (now (lines .exit))) ⌝ }
-    ensures { λ r. ⌜ bitsIn itsBits (encodeSays (r .answer)) ≤ 168 ⌝ }
-{
-    let frame = check_frame(duration, bandwidth, lines.len());
-    match frame {
-        FrameAnswer::Refused(why) => refused(why),
-        FrameAnswer::Sound(row) => {
-            let weighting = lpc_weighting(duration_of(duration), nbits);
-            row_encoded(row, flag, weighting, lines)
-        }
-    }
+    let start = band.start;
+    let stop = band.stop;
+    band_encoded(q, order, states, &mut lines[start..stop])
 }

@@ -19,14 +19,14 @@ use Rattle.tns_rows.specs.declared.duration.Duration.{Duration}
 use Rattle.tns_rows.specs.declared.row.Row.{Row}
 use Rattle.tns_rows.proofs.Bands.{Fits, SoundRow}
 use Rattle.tns_rows.proofs.Apart.{inside-length, inside-at, row-apart, in-row}
-use Rattle.tns_lattices.specs.States.{atRest}
-use Rattle.tns_lattices.specs.EncoderLattice.{statesAfter}
-use Rattle.tns_lattices.specs.TwoBands.{twoEncoded}
-use Rattle.tns_lattices.proofs.TwoBands.{first-inside, second-inside}
+use Rattle.tns_lattices.specs.Lattice.{atRest, statesBy}
+use Rattle.tns_lattices.specs.EncoderLattice.{lineEncoded}
+use Rattle.tns_filters.proofs.Filters.{partFiltered, filtered-inside}
 use Rattle.tns_side.specs.Quantized.{quantizedOf, absent}
 use Rattle.tns_side.specs.Limits.{Within8}
 use Rattle.tns_side.specs.declared.Quantized.{Quantized}
 use Rattle.tns_side.specs.declared.SideData.{SideData}
+use Rattle.tns_exact.specs.SideFilters.{filtersIn, filteredBy}
 use Rattle.tns_exact.specs.Exact.{exactRest, firstExact, exactCarried, secondExact, nearness, LinesAtMost, BandsNear, InRange, NearExact}
 use Rattle.tns_exact.proofs.NearLattice.{Reading, Factors, at-rest, Through, lines-near}
 
@@ -114,21 +114,18 @@ module _ (d : Duration) (bandwidth weighting filters : ℕ) (a b : Quantized) (t
         (λ j l. band-fits 0 j (sound .first-fits) l) (λ j l. band-small 0 j (sound .first-fits) l)
 
     through-second : Through m r (b .coefficients) (factors b tb) (b .order) (tb .within .order-at-most-8)
-        (statesAfter (a .coefficients) (a .order) atRest (inside (row .first) xs)) (inside (row .second) xs) (exactCarried row side xs)
+        (statesBy lineEncoded (a .coefficients) (a .order) atRest (inside (row .first) xs)) (inside (row .second) xs) (exactCarried row side xs)
     unfolding exactCarried
     through-second =
         lines-near m r (b .coefficients) (factors b tb) (b .order) (tb .within .order-at-most-8) _ (inside (row .second) xs) (exactCarried row side xs)
         (through-first .after)
         (λ j l. band-fits 1 j (sound .second-fits) l) (λ j l. band-small 1 j (sound .second-fits) l)
 
-    bands-near : BandsNear m row side xs (twoEncoded row (a .coefficients) (a .order) (b .coefficients) (b .order) xs)
-    unfolding firstExact secondExact
+    bands-near : BandsNear m row side xs (filteredBy side row xs)
+    unfolding firstExact secondExact filteredBy partFiltered
     bands-near =
-        let apart = row-apart d bandwidth in
-        record {
-          first = rw (first-inside row (a .coefficients) (a .order) (b .coefficients) (b .order) xs sound apart) (through-first .lines);
-          second = rw (second-inside row (a .coefficients) (a .order) (b .coefficients) (b .order) xs sound apart) (through-second .lines);
-        }
+        let becomes = filtered-inside lineEncoded row xs sound (row-apart d bandwidth) (filtersIn side) in
+        record { first = rw (becomes 0 (omega arith)) (through-first .lines); second = rw (becomes 1 (omega arith)) (through-second .lines) }
 
-  pub filters-near : NearExact row side xs (twoEncoded row (a .coefficients) (a .order) (b .coefficients) (b .order) xs)
+  pub filters-near : NearExact row side xs (filteredBy side row xs)
   filters-near m range small = bands-near m (reading m range) small

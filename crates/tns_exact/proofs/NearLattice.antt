@@ -18,10 +18,10 @@ use Rattle.tns_rounding.specs.Units.{inUnits, powerInUnits, AtMost, WithinOf}
 use Rattle.tns_rounding.proofs.Steps.{Tracks, tracks-wider, grown, onto, plus}
 use Rattle.tns_rounding.proofs.Values.{enters, leaves}
 use Rattle.tns_rounding.proofs.Factors.{Factor}
-use Rattle.tns_index.specs.Quantizer.{plusZero}
+use Rattle.tns_rounding.specs.Floats.{f0}
 use Rattle.tns_lists.specs.Lines.{linesThrough, stateThrough}
-use Rattle.tns_lattices.specs.EncoderLattice.{stage, stagesTo, entering, lineEncoded, linesEncoded, statesAfter}
-use Rattle.tns_lattices.specs.States.{atRest}
+use Rattle.tns_lattices.specs.EncoderLattice.{stage, stagesTo, entering, lineEncoded}
+use Rattle.tns_lattices.specs.Lattice.{atRest, linesBy, statesBy}
 use Rattle.tns_exact.specs.Exact.{finer, ExactPassing, ExactPassed, exactStage, exactStagesTo, exactEntering, lineExact, linesExact, statesExact, exactRest, nearness, EachNear}
 use Rattle.tns_lattices.specs.declared.encoder.Passing.{Passing}
 use Rattle.tns_lattices.specs.declared.Passed.{Passed}
@@ -82,13 +82,13 @@ stored h k states exact b B low held at =
       ];
     }
 
-zero-at : (h k : ℕ) → At h k plusZero (pos 0)
+zero-at : (h k : ℕ) → At h k f0 (pos 0)
 unfolding ofBits
 zero-at h k = record { negative = false; size = 0; value = (refl, refl); bound = omega arith; number = record { over = 0; under = 0 }; is = refl; near = (omega arith, omega arith) }
 
 pub at-rest : (h : ℕ) → Held h atRest exactRest
 at-rest h =
-    record { eight = refl; eight-exact = refl; each = λ k l. rw (getD-replicate 8 k plusZero nan l, getD-replicate 8 k (pos 0) (pos 0) l) (zero-at h k) }
+    record { eight = refl; eight-exact = refl; each = λ k l. rw (getD-replicate 8 k f0 nan l, getD-replicate 8 k (pos 0) (pos 0) l) (zero-at h k) }
 
 -- ---- one stage
 
@@ -211,12 +211,12 @@ module _ (m : ℤ) (r : Reading m) where
 
   module _ (q : List Float) (fs : Factors q) (order : ℕ) (most : order ≤ 8) where
     pub record Through (states xs : List Float) (exact : List ℤ) : Type 0 where
-      pub lines : EachNear m (linesEncoded q order states xs) (linesExact (map (inUnits 26) q) order exact (map (inUnits 149) xs))
-      pub after : Held h (statesAfter q order states xs) (statesExact (map (inUnits 26) q) order exact (map (inUnits 149) xs))
+      pub lines : EachNear m (linesBy lineEncoded q order states xs) (linesExact (map (inUnits 26) q) order exact (map (inUnits 149) xs))
+      pub after : Held h (statesBy lineEncoded q order states xs) (statesExact (map (inUnits 26) q) order exact (map (inUnits 149) xs))
 
     pub lines-near : (states xs : List Float) (exact : List ℤ) → Held h states exact → ((j : ℕ) → j < length xs → T (fits binary32 (getD xs j nan)))
         → ((j : ℕ) → j < length xs → AtMost m (getD xs j nan)) → Through states xs exact
-    unfolding linesEncoded linesExact statesAfter statesExact linesThrough stateThrough
+    unfolding linesBy linesExact statesBy statesExact linesThrough stateThrough
     lines-near states [] exact held f a = record { lines = no-lines m; after = held }
     lines-near states (x ∷ xs) exact held f a =
         let line = line-near h (r .small) q fs order most states exact held x (inUnits 149 x) (line-enters x (f 0 (omega arith)) (a 0 (omega arith))) in

@@ -9,7 +9,6 @@ use lib.ListN.{length, getD, set, replicate}
 use lib.IntN.{ℤ, pos, negℤ, _+ℤ_, _-ℤ_, _*ℤ_}
 use lib.Signed.{_≤ℤ_}
 use lib.Ieee.{Float, nan}
-use Rattle.tns_refusals.specs.Refusals.{Verdict, accepted, refused, refusedAt}
 use Rattle.tns_rounding.specs.Units.{inUnits, AtMost, WithinOf}
 use Rattle.tns_lists.specs.Lines.{linesThrough, stateThrough}
 use Rattle.tns_rows.specs.Bands.{inside, lastStop}
@@ -116,9 +115,3 @@ InRange m = (negℤ (pos 126) ≤ℤ m) × (m ≤ℤ pos 119)
 
 abbrev pub NearExact : Row → SideData → List Float → List Float → Type 0
 NearExact row side before after = (m : ℤ) → InRange m → LinesAtMost m row before → BandsNear m row side before after
-
--- of an accepted call
-abbrev pub IfAccepted : {A : Type 0} → Verdict A → Type 0 → Type 0
-IfAccepted (accepted a) P = P
-IfAccepted (refused number) P = Unit {0}
-IfAccepted (refusedAt number place found) P = Unit {0}

@@ -8,10 +8,11 @@ use lib.ListN.{length, replicate}
 use lib.Ieee.{Float, nan, neg, le, ofBits, binary32}
 use Rattle.tns_lists.specs.Every.{every}
 use Rattle.tns_tables.specs.Tables.{ofOrder, cellsFrom}
-use Rattle.tns_index.specs.Quantizer.{indexOf, notAbove, one}
-use Rattle.tns_refusals.specs.Refusals.{Verdict, accepted, refused, refusedAt, sideChecks, lowestOver}
+use Rattle.tns_rounding.specs.Floats.{f1}
+use Rattle.tns_index.specs.Quantizer.{indexOf, notAbove}
+use Rattle.tns_refusals.specs.Refusals.{unlessRefused, sideChecks, lowestOver}
 use Rattle.tns_cost.specs.Cost.{costOf, countedBits, filterBits, filterCost, orderCost, indexCosts}
-use Rattle.tns_rows.specs.Durations.{kept, weightingOf}
+use Rattle.tns_rows.specs.Durations.{weightingOf, numbersOf}
 use Rattle.tns_rows.specs.declared.duration.Duration.{Duration}
 use Rattle.tns_rows.specs.declared.duration.Duration.the-variants.{Ten, SevenPointFive}
 
@@ -35,8 +36,8 @@ marked =
     weighs Ten 480 0 ∷  -- M7
     weighs SevenPointFive 359 1 ∷  -- M8
     weighs SevenPointFive 360 0 ∷  -- M9
-    quantizes one 16 ∷  -- M10
-    quantizes (neg one) 0 ∷  -- M11
+    quantizes f1 16 ∷  -- M10
+    quantizes (neg f1) 0 ∷  -- M11
     quantizes nan 8 ∷  -- M12
     quantizes (ofBits binary32 0x3fc00000) 8 ∷  -- M13: 1.5
     costs 0 0 (0 ∷ 0 ∷ []) [] 0 ∷  -- M14: no filter
@@ -46,16 +47,11 @@ marked =
 unfoldable pub padded : List ℕ → List ℕ
 padded indices = indices ++ replicate (16 - length indices) 8
 
-unfoldable pub accepts : Verdict ℕ → ℕ → Bool
-accepts (accepted bits) expected = eqb bits expected
-accepts (refused number) expected = false
-accepts (refusedAt number place found) expected = false
-
 unfoldable pub right : Case → Bool
-right (costs weighting filters orders indices bits) = accepts (costOf weighting filters orders (padded indices)) bits
-right (weighs duration nbits weighting) = eqb (weightingOf (kept duration) nbits) weighting
+right (costs weighting filters orders indices bits) = unlessRefused (costOf weighting filters orders (padded indices)) (λ b. eqb b bits) false
+right (weighs duration nbits weighting) = eqb (weightingOf (numbersOf duration) nbits) weighting
 right (quantizes x index) = eqb (indexOf x) index
 
 pub marked-cases-hold : every right marked ≡ true
-unfolding marked right accepts padded costOf sideChecks lowestOver countedBits filterBits filterCost orderCost ofOrder indexCosts cellsFrom weightingOf indexOf notAbove le neg ofBits
+unfolding marked right padded costOf sideChecks lowestOver countedBits filterBits filterCost orderCost ofOrder indexCosts cellsFrom weightingOf indexOf notAbove le neg ofBits
 marked-cases-hold = refl

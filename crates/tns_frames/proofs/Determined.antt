@@ -1,11 +1,12 @@
 -- Any two results that a contract allows for one input coincide: the law of `tns_refusals`, cited for each public function of this crate. What
 -- `band_lines` hands back is a reference: any two have one place and hold the same lines, and the ghost name that a borrow has is open.
-use mathlib.Core.Path.{_≡_, refl}
+use mathlib.Core.Path.{_≡_, refl, ap}
 use contract.Lifetimes.{Lfts}
 use denote.Ref.{ptr, now}
 use denote.Triple.Clauses.{AtExit}
 use borrow.Fn.Kinds.{Dens, resT, endedOf}
-use Rattle.tns_refusals.proofs.Determined.{Determined, coincide, itself, answerBack, refused-back}
+use Rattle.tns_refusals.proofs.Eight.{of-eight}
+use Rattle.tns_refusals.proofs.Determined.{Determined, coincide, itself, answerBack}
 use Rattle.tns_frames.specs.Frames.{frameSays}
 use Rattle.tns_frames.specs.declared.FrameAnswer.{FrameAnswer}
 use Rattle.tns_frames.specs.declared.FrameAnswer.the-variants.{Sound, Refused}
@@ -21,7 +22,7 @@ asked-band κs a x y s t p q = itself p q
 
 frameBack : (answer : FrameAnswer) → answerBack Sound Refused (frameSays answer) ≡ answer
 frameBack (Sound row) = refl
-frameBack (Refused why) = refused-back Sound Refused why
+frameBack (Refused why) = ap Refused (of-eight why .back)
 
 check-frame : Determined 0 check-frame-kinds.ps check-frame-kinds.r check-frame-reads.Post
 check-frame κs a x y s t p q = coincide frameSays (answerBack Sound Refused) frameBack p q

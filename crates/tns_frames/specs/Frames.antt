@@ -2,8 +2,8 @@
 use mathlib.Core.Bool.{_||_}
 use Prim.Native.Nat.{ℕ, _+_, _-_, _*_}
 use lib.Dec.{ltb}
-use Rattle.tns_refusals.specs.Refusals.{Verdict, accepted, refused, refusedAt, check, says}
-use Rattle.tns_rows.specs.Durations.{kept, durationOf}
+use Rattle.tns_refusals.specs.Refusals.{Verdict, accepted, refused, check, says, unlessRefused}
+use Rattle.tns_rows.specs.Durations.{durationOf, numbersOf}
 use Rattle.tns_rows.specs.Bands.{rowOf, bandOf, noBand, lastStop}
 use Rattle.tns_rows.specs.declared.duration.Duration.{Duration}
 use Rattle.tns_rows.specs.declared.row.Band.{Band}
@@ -13,7 +13,7 @@ use Rattle.tns_frames.specs.declared.FrameAnswer.the-variants.{Sound, Re
 
 -- 3: spectrum shorter than the row's last stop, or longer than the duration's longest
 abbrev pub lengthCheck : {A : Type 0} → Duration → ℕ → ℕ → Verdict A → Verdict A
-lengthCheck duration bandwidth lines next = check 3 (ltb lines (lastStop (rowOf duration bandwidth)) || ltb (kept duration .longest) lines) next
+lengthCheck duration bandwidth lines next = check 3 (ltb lines (lastStop (rowOf duration bandwidth)) || ltb (numbersOf duration .longest) lines) next
 
 -- 1: duration code is not 0 or 1. 2: bandwidth over 4. 3: the length
 unfoldable pub frameChecks : {A : Type 0} → ℕ → ℕ → ℕ → Verdict A → Verdict A
@@ -26,19 +26,14 @@ frameChecks duration bandwidth lines next =
 -- what the shared check of 1 to 3 says: the row of a frame that it finds no fault with
 abbrev pub frameSays : FrameAnswer → Verdict Row
 frameSays (Sound row) = accepted row
-frameSays (Refused why) = says why
+frameSays (Refused why) = refused (says why)
 
 unfoldable pub frameOf : ℕ → ℕ → ℕ → Verdict Row
 frameOf duration bandwidth lines = frameChecks duration bandwidth lines (accepted (rowOf (durationOf duration) bandwidth))
 
 -- the band that a caller asks for: none where the row has no such band or where refusal 1, 2 or 3 would be given
-abbrev pub askedIn : Verdict Row → ℕ → Band
-askedIn (accepted row) filter = bandOf row filter
-askedIn (refused number) filter = noBand
-askedIn (refusedAt number place found) filter = noBand
-
 abbrev pub askedBand : ℕ → ℕ → ℕ → ℕ → Band
-askedBand duration bandwidth filter lines = askedIn (frameOf duration bandwidth lines) filter
+askedBand duration bandwidth filter lines = unlessRefused (frameOf duration bandwidth lines) (λ row. bandOf row filter) noBand
 
 -- how many lines a band has
 abbrev pub linesOf : Band → ℕ

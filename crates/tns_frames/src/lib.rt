@@ -98,9 +98,9 @@ pub fn asked_band(duration: u8, bandwidth: u8, filter: u8, lines: usize) -> Band
 // lies is promised. Of the other lines nothing is: the language says nothing of a `&mut` parameter that
 // goes into the result (docs/DECISIONS.md).
 pub fn band_lines(duration: u8, bandwidth: u8, filter: u8, lines: &mut [f32]) -> &mut [f32]
-    ensures { λ r. ⌜ now r ≡ inside (askedBand duration bandwidth filter (length (now (lines .entry)))) (now (lines .entry)) ⌝ }
-    ensures { λ r. ⌜ ptr r ≡ lineAt (ptr (lines .entry)) (askedBand duration bandwidth filter (length (now (lines .entry))) .start) ⌝ }
-    ensures { λ r. ⌜ length (now r) ≡ linesOf (askedBand duration bandwidth filter (length (now (lines .entry)))) ⌝ }
+    ensures lines { λ r. ⌜ now r ≡ inside (askedBand duration bandwidth filter (length (now (lines .entry)))) (now (lines .entry)) ⌝ }
+    ensures place { λ r. ⌜ ptr r ≡ lineAt (ptr (lines .entry)) (askedBand duration bandwidth filter (length (now (lines .entry))) .start) ⌝ }
+    ensures count { λ r. ⌜ length (now r) ≡ linesOf (askedBand duration bandwidth filter (length (now (lines .entry)))) ⌝ }
 {
     let asked = asked_band(duration, bandwidth, filter, lines.len());
     let start = asked.start;

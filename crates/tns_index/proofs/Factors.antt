@@ -6,17 +6,18 @@ use lib.Dec.{T}
 use lib.Ieee.{ofBits}
 use Rattle.tns_rounding.proofs.Factors.{Factor, isFactor, factor}
 use Rattle.tns_lists.specs.Every.{every}
-use Rattle.tns_index.specs.Quantizer.{coefficients, coefficientOf, plusZero}
+use Rattle.tns_rounding.specs.Floats.{f0}
+use Rattle.tns_index.specs.Quantizer.{coefficients, coefficientOf}
 use Rattle.tns_lists.proofs.Every.{every-at}
 
 all-factors : every isFactor coefficients ≡ true
 unfolding isFactor ofBits
 all-factors = refl
 
-zero-factor : isFactor plusZero ≡ true
+zero-factor : isFactor f0 ≡ true
 unfolding isFactor ofBits
 zero-factor = refl
 
 pub coefficient-factor : (i : ℕ) → Factor (coefficientOf i)
 unfolding coefficientOf
-coefficient-factor i = factor (coefficientOf i) (subst T (sym (every-at isFactor coefficients all-factors plusZero zero-factor i)) tt)
+coefficient-factor i = factor (coefficientOf i) (subst T (sym (every-at isFactor coefficients all-factors f0 zero-factor i)) tt)

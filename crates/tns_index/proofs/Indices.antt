@@ -9,7 +9,8 @@ use lib.Dec.{eqb}
 use lib.Ieee.{Float, le, neg}
 use borrow.Author.Tests.{eqb-true}
 use lib.ListN.{length, getD}
-use Rattle.tns_index.specs.Quantizer.{notAbove, indexOf, coefficientOf, coefficients, orderFrom, orderOf, thresholds, plusZero, one}
+use Rattle.tns_rounding.specs.Floats.{f0, f1}
+use Rattle.tns_index.specs.Quantizer.{notAbove, indexOf, coefficientOf, coefficients, orderFrom, orderOf, thresholds}
 use Rattle.tns_index.specs.QuantizerRules.{countUp, indices-agree}
 use Rattle.tns_lists.proofs.Every.{and-left, and-right}
 
@@ -25,7 +26,7 @@ at-most-all x (t ∷ ts) = counted (le t x) (at-most-all x ts)
 -- an index is at most 16
 pub index-at-most : (x : Float) → indexOf x ≤ 16
 unfolding indexOf
-index-at-most x = chosen (le plusZero x && le x one) (le (neg one) x && le x plusZero) (at-most-all x thresholds)
+index-at-most x = chosen (le f0 x && le x f1) (le (neg f1) x && le x f0) (at-most-all x thresholds)
   where
     chosen : (a b : Bool) → notAbove x thresholds ≤ 8 → cond a (8 + notAbove x thresholds) (cond b (8 - notAbove (neg x) thresholds) 8) ≤ 16
     chosen true b h = omega arith
@@ -57,4 +58,4 @@ count-up-at j (x ∷ xs) e d (suc i) h = omega (arith, count-up-at (suc j) xs (a
 -- index and coefficient agree
 pub index-of-coefficient : (i : ℕ) → i < 17 → indexOf (coefficientOf i) ≡ i
 unfolding coefficientOf
-index-of-coefficient i h = omega (arith, count-up-at 0 coefficients indices-agree plusZero i h)
+index-of-coefficient i h = omega (arith, count-up-at 0 coefficients indices-agree f0 i h)

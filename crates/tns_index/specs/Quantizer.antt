@@ -6,6 +6,7 @@ use Prim.Native.Nat.{ℕ, suc, _+_, _-_}
 use lib.Dec.{eqb}
 use lib.ListN.{getD}
 use lib.Ieee.{Float, le, neg, ofBits, binary32}
+use Rattle.tns_rounding.specs.Floats.{f0, f1}
 
 abbrev pub coefficientPatterns : List ℕ
 coefficientPatterns =
@@ -48,12 +49,6 @@ coefficients = map (ofBits binary32) coefficientPatterns
 abbrev pub thresholds : List Float
 thresholds = map (ofBits binary32) thresholdPatterns
 
-abbrev pub plusZero : Float
-plusZero = ofBits binary32 0
-
-abbrev pub one : Float
-one = ofBits binary32 0x3f800000
-
 -- the number of thresholds not above x
 unfoldable pub notAbove : Float → List Float → ℕ
 notAbove x [] = 0
@@ -62,13 +57,13 @@ notAbove x (t ∷ ts) = cond (le t x) 1 0 + notAbove x ts
 -- x in 0..1 gives 8 plus the number of thresholds not above x; x in -1..0 gives 8 minus that number for -x. NaN or |x| > 1 gives 8
 unfoldable pub indexOf : Float → ℕ
 indexOf x =
-    cond (le plusZero x && le x one) (8 + notAbove x thresholds)
-    (cond (le (neg one) x && le x plusZero) (8 - notAbove (neg x) thresholds)
+    cond (le f0 x && le x f1) (8 + notAbove x thresholds)
+    (cond (le (neg f1) x && le x f0) (8 - notAbove (neg x) thresholds)
     8)
 
 -- the coefficient of an index, and 0 past the table
 unfoldable pub coefficientOf : ℕ → Float
-coefficientOf index = getD coefficients index plusZero
+coefficientOf index = getD coefficients index f0
 
 -- the last place whose index isn't 8, counted from 1, or what was found before: `passed` places lie behind
 unfoldable pub orderFrom : ℕ → ℕ → List ℕ → ℕ

@@ -7,7 +7,8 @@ use lib.Dec.{eqb}
 use lib.ListN.{drop}
 use lib.Ieee.{Float, nan, inf, fin, up, down, lt, eq, le, neg, ofBits}
 use Rattle.tns_lists.specs.Every.{every}
-use Rattle.tns_index.specs.Quantizer.{coefficients, thresholds, coefficientOf, indexOf, notAbove, plusZero, one}
+use Rattle.tns_rounding.specs.Floats.{f0, f1}
+use Rattle.tns_index.specs.Quantizer.{coefficients, thresholds, coefficientOf, indexOf, notAbove}
 
 -- each number is above the one before it
 unfoldable pub risingFrom : Float → List Float → Bool
@@ -35,7 +36,7 @@ multiple (fin s m e) = eqb (m * up e * 2 ^ 26 % down e) 0
 
 -- below 1 in size
 unfoldable pub small : Float → Bool
-small x = lt (neg one) x && lt x one
+small x = lt (neg f1) x && lt x f1
 
 -- the indices of some numbers count up from a number
 unfoldable pub countUp : ℕ → List Float → Bool
@@ -43,7 +44,7 @@ countUp i [] = true
 countUp i (x ∷ xs) = eqb (indexOf x) i && countUp (suc i) xs
 
 -- index 8 is 0
-pub middle-is-zero : coefficientOf 8 ≡ plusZero
+pub middle-is-zero : coefficientOf 8 ≡ f0
 unfolding coefficientOf
 middle-is-zero = refl
 
@@ -58,12 +59,12 @@ unfolding multiple small lt neg ofBits
 coefficients-in-units = refl
 
 -- from -1 to 1 the table rises
-pub coefficients-rise : risingFrom (neg one) coefficients ≡ true
+pub coefficients-rise : risingFrom (neg f1) coefficients ≡ true
 unfolding risingFrom lt neg ofBits
 coefficients-rise = refl
 
 -- thresholds are positive, rising and below 1, and each lies between its neighbouring coefficients: taken in turn, from coefficient 8 on, both tables rise
-pub thresholds-between : risingFrom (neg one) (alternate (drop 8 coefficients) thresholds) ≡ true
+pub thresholds-between : risingFrom (neg f1) (alternate (drop 8 coefficients) thresholds) ≡ true
 unfolding risingFrom alternate lt neg ofBits
 thresholds-between = refl
 

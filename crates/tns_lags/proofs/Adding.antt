@@ -10,7 +10,7 @@ use lib.ListN.{length}
 use Rattle.tns_rounding.specs.Floats.{_⊕_, _⊗_, f0}
 use Rattle.tns_lists.specs.Places.{at, tab}
 use Rattle.tns_lags.specs.Autocorrelation.{products, lagSum}
-use Rattle.tns_lags.specs.Steps.{addedCell, sumsTo}
+use Rattle.tns_lags.specs.PartialSums.{addedCell, sumsTo}
 use Rattle.tns_lists.proofs.Tab.{length-tab, at-tab, is-tab}
 
 module _ (sums xs : List Float) (n : ℕ) where

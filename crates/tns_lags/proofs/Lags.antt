@@ -8,7 +8,7 @@ use Rattle.tns_rounding.specs.Floats.{_⊗_, f0}
 use Rattle.tns_lists.specs.Places.{at, tab}
 use Rattle.tns_lists.proofs.Tab.{length-tab, at-tab, is-tab}
 use Rattle.tns_lags.specs.Autocorrelation.{lagSum, normalizedLag}
-use Rattle.tns_lags.specs.Steps.{lagCell}
+use Rattle.tns_lags.specs.PartialSums.{lagCell}
 
 -- a lag from the sums is the lag of the subbands
 module _ (xs ys zs a b c : List Float) (ea : a ≡ tab (lagSum xs) 9) (eb : b ≡ tab (lagSum ys) 9) (ec : c ≡ tab (lagSum zs) 9) where

@@ -3,11 +3,11 @@ use mathlib.Core.Bool.{cond}
 use mathlib.Core.List.{List, [], _∷_, map}
 use Prim.Native.Nat.{ℕ, zero, suc, _+_, _-_}
 use lib.Dec.{eqb}
-use lib.ListN.{take, drop, length}
+use lib.ListN.{length}
 use lib.Ieee.{Float, eq, ofBits, binary32}
 use Rattle.tns_rows.specs.declared.row.Band.{Band}
 use Rattle.tns_rounding.specs.Floats.{_⊕_, _⊗_, _⊘_, f0}
-use Rattle.tns_lists.specs.Places.{at, tab}
+use Rattle.tns_lists.specs.Places.{part, at, tab}
 
 -- the sum of the first m products of lines k apart, in line order
 unfoldable pub products : List Float → ℕ → ℕ → Float
@@ -17,10 +17,6 @@ products xs k (suc m) = products xs k m ⊕ at xs m ⊗ at xs (m + k)
 -- ac: the products of lines k apart, inside a subband. At lag 0 it is es, the sum of the squares.
 unfoldable pub lagSum : List Float → ℕ → Float
 lagSum xs k = products xs k (length xs - k)
-
--- the lines from a start to a stop
-abbrev pub part : ℕ → ℕ → List Float → List Float
-part start stop lines = take (stop - start) (drop start lines)
 
 -- the three subbands of a band
 abbrev pub lowest : Band → List Float → List Float

@@ -1,3 +1,3 @@
 -- What a reader has to believe of the lags of a band.
 pub mod Autocorrelation
-pub mod Steps
+pub mod PartialSums

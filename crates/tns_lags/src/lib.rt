@@ -5,10 +5,10 @@ ghost use mathlib.Core.Path.{_≡_};
 ghost use Prim.Native.Nat.{_+_, _-_, _<_, _≤_, min};
 ghost use lib.ListN.{length};
 ghost use lib.Ieee.{eq};
-ghost use Rattle.tns_lists.specs.Places.{at, tab};
+ghost use Rattle.tns_lists.specs.Places.{at, tab, part};
 ghost use Rattle.tns_rounding.specs.Floats.{_⊗_, _⊘_, f0};
-ghost use Rattle.tns_lags.specs.Autocorrelation.{lagSum, part, whereSilent, normalizedLag, autocorrelation};
-ghost use Rattle.tns_lags.specs.Steps.{addedCell, sumsTo, plainCell, lagCell};
+ghost use Rattle.tns_lags.specs.Autocorrelation.{lagSum, whereSilent, normalizedLag, autocorrelation};
+ghost use Rattle.tns_lags.specs.PartialSums.{addedCell, sumsTo, plainCell, lagCell};
 
 const LAG_WINDOW: [f32; 9] = [
     1.0,

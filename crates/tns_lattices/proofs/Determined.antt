@@ -9,7 +9,7 @@ use Rattle.tns_lattices.proofs.encoder.band_encoded.Kinds as band-encod
 use Rattle.tns_lattices.proofs.encoder.band_encoded.Reads as band-encoded-reads
 
 band-decoded : DeterminedWith 1 band-decoded-kinds.ps band-decoded-kinds.r band-decoded-reads.Post (List Float) (λ κs s. s .1 .1 .1 .0 .now)
-band-decoded κs a x y s t p q = (itself (p .0) (q .0), itself (p .1) (q .1))
+band-decoded κs a x y s t p q = (itself (p .states) (q .states), itself (p .lines) (q .lines))
 
 band-encoded : DeterminedWith 1 band-encoded-kinds.ps band-encoded-kinds.r band-encoded-reads.Post (List Float) (λ κs s. s .1 .1 .1 .0 .now)
-band-encoded κs a x y s t p q = (itself (p .0) (q .0), itself (p .1) (q .1))
+band-encoded κs a x y s t p q = (itself (p .states) (q .states), itself (p .lines) (q .lines))

@@ -1,6 +1,4 @@
 -- The laws that belong to no one function.
-pub mod Orders
-pub mod DecoderIdle
-pub mod EncoderIdle
-pub mod TwoBands
+pub mod BandLines
+pub mod Idle
 pub mod Determined

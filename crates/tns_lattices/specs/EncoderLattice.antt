@@ -1,10 +1,9 @@
--- Document 01, "Lattices", the encoder's: one line, and the lines of a band, with eight states carried from line to line. Every product and sum is
--- an f32's and rounds once.
+-- Document 01, "Lattices", the encoder's: one line, with eight states. Every product and sum is an f32's and rounds once.
 use mathlib.Core.List.{List}
 use Prim.Native.Nat.{ℕ, zero, suc}
 use lib.ListN.{getD, set}
-use lib.Ieee.{Float, nan, add, mul, binary32}
-use Rattle.tns_lists.specs.Lines.{linesThrough, stateThrough}
+use lib.Ieee.{Float, nan}
+use Rattle.tns_rounding.specs.Floats.{_⊕_, _⊗_}
 use Rattle.tns_lattices.specs.declared.encoder.Passing.{Passing}
 use Rattle.tns_lattices.specs.declared.Passed.{Passed}
 
@@ -12,11 +11,7 @@ use Rattle.tns_lattices.specs.declared.Passed.{Passed}
 unfoldable pub stage : Float → ℕ → Passing → Passing
 stage q k p =
     let old = getD (p .states) k nan in
-    record {
-      t = add binary32 (p .t) (mul binary32 q old);
-      b = add binary32 (mul binary32 q (p .t)) old;
-      states = set (p .states) k (p .b);
-    }
+    record { t = p .t ⊕ q ⊗ old; b = q ⊗ p .t ⊕ old; states = set (p .states) k (p .b) }
 
 -- upwards: the stages below a number
 unfoldable pub stagesTo : List Float → ℕ → Passing → Passing
@@ -33,11 +28,4 @@ unfoldable pub lineEncoded : List Float → ℕ → List Float → Float → Pas
 lineEncoded q zero states line = record { t = line; states = states }
 lineEncoded q (suc k) states line =
     let p = stagesTo q k (entering line states) in
-    record { t = add binary32 (p .t) (mul binary32 (getD q k nan) (getD (p .states) k nan)); states = set (p .states) k (p .b) }
-
--- the lines of a band, taken upwards, and the states after them
-unfoldable pub linesEncoded : List Float → ℕ → List Float → List Float → List Float
-linesEncoded q order = linesThrough (λ states line. lineEncoded q order states line .t) (λ states line. lineEncoded q order states line .states)
-
-unfoldable pub statesAfter : List Float → ℕ → List Float → List Float → List Float
-statesAfter q order = stateThrough (λ states line. lineEncoded q order states line .states)
+    record { t = p .t ⊕ getD q k nan ⊗ getD (p .states) k nan; states = set (p .states) k (p .b) }

@@ -3,7 +3,8 @@
 use crate::Passed;
 ghost use mathlib.Core.Path.{_≡_};
 ghost use Prim.Native.Nat.{_<_, _≤_, min};
-ghost use Rattle.tns_lattices.specs.DecoderLattice.{stage, stagesBelow, passing, lineDecoded, linesDecoded, statesAfter};
+ghost use Rattle.tns_lattices.specs.Lattice.{Filtered};
+ghost use Rattle.tns_lattices.specs.DecoderLattice.{stage, stagesBelow, passing, lineDecoded};
 
 // One line through a filter of order 1 to 8.
 fn line_decoded(q: [f32; 8], order: usize, states: [f32; 8], line: f32) -> Passed
@@ -27,8 +28,7 @@ fn line_decoded(q: [f32; 8], order: usize, states: [f32; 8], line: f32) -> Passe
 // The lines of a band in place, upwards. It answers the states after them.
 fn lines_decoded(q: [f32; 8], order: usize, states: [f32; 8], lines: &mut [f32]) -> [f32; 8]
     requires { ⌜ (0 < order) × (order ≤ 8) ⌝ }
-    ensures { λ r. ⌜ r ≡ statesAfter q order states (now (lines .entry)) ⌝ }
-    ensures { λ _. ⌜ now (lines .exit) ≡ linesDecoded q order states (now (lines .entry)) ⌝ }
+    ensures { λ r. ⌜ Filtered lineDecoded q order states (now (lines .entry)) r (now (lines .exit)) ⌝ }
 {
     let mut state = states;
     let mut i = 0usize;
@@ -46,8 +46,7 @@ fn lines_decoded(q: [f32; 8], order: usize, states: [f32; 8], lines: &mut [f32])
 // all, and no door hands one on. Each order is a literal in its call, so that the compiler can lay the
 // stages of each out.
 pub fn band_decoded(q: [f32; 8], order: u8, states: [f32; 8], lines: &mut [f32]) -> [f32; 8]
-    ensures { λ r. ⌜ r ≡ statesAfter q (min order 8) states (now (lines .entry)) ⌝ }
-    ensures { λ _. ⌜ now (lines .exit) ≡ linesDecoded q (min order 8) states (now (lines .entry)) ⌝ }
+    ensures { λ r. ⌜ Filtered lineDecoded q (min order 8) states (now (lines .entry)) r (now (lines .exit)) ⌝ }
 {
     match order {
         0 => states,

@@ -3,7 +3,8 @@
 use crate::Passed;
 ghost use mathlib.Core.Path.{_≡_};
 ghost use Prim.Native.Nat.{_<_, _≤_, min};
-ghost use Rattle.tns_lattices.specs.EncoderLattice.{stage, stagesTo, entering, lineEncoded, linesEncoded, statesAfter};
+ghost use Rattle.tns_lattices.specs.Lattice.{Filtered};
+ghost use Rattle.tns_lattices.specs.EncoderLattice.{stage, stagesTo, entering, lineEncoded};
 
 // A line on its way: t and b, with the states as they are.
 pub struct Passing {
@@ -58,8 +59,7 @@ fn line_encoded(q: [f32; 8], order: usize, states: [f32; 8], line: f32) -> Passe
 // The lines of a band in place, upwards. It answers the states after them.
 fn lines_encoded(q: [f32; 8], order: usize, states: [f32; 8], lines: &mut [f32]) -> [f32; 8]
     requires { ⌜ (0 < order) × (order ≤ 8) ⌝ }
-    ensures { λ r. ⌜ r ≡ statesAfter q order states (now (lines .entry)) ⌝ }
-    ensures { λ _. ⌜ now (lines .exit) ≡ linesEncoded q order states (now (lines .entry)) ⌝ }
+    ensures { λ r. ⌜ Filtered lineEncoded q order states (now (lines .entry)) r (now (lines .exit)) ⌝ }
 {
     let mut state = states;
     let mut i = 0usize;
@@ -77,8 +77,7 @@ fn lines_encoded(q: [f32; 8], order: usize, states: [f32; 8], lines: &mut [f32])
 // all, and no door hands one on. Each order is a literal in its call, so that the compiler can lay the
 // stages of each out.
 pub fn band_encoded(q: [f32; 8], order: u8, states: [f32; 8], lines: &mut [f32]) -> [f32; 8]
-    ensures { λ r. ⌜ r ≡ statesAfter q (min order 8) states (now (lines .entry)) ⌝ }
-    ensures { λ _. ⌜ now (lines .exit) ≡ linesEncoded q (min order 8) states (now (lines .entry)) ⌝ }
+    ensures { λ r. ⌜ Filtered lineEncoded q (min order 8) states (now (lines .entry)) r (now (lines .exit)) ⌝ }
 {
     match order {
         0 => states,

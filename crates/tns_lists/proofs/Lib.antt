@@ -1,6 +1,8 @@
 -- The laws of lists.
 pub mod Every
+pub mod Parts
 pub mod InPlace
 pub mod Filled
 pub mod Tab
 pub mod Joined
+pub mod Orders

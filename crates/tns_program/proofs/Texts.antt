@@ -1,5 +1,5 @@
 -- Laws of a text that is put after others, piece by piece, and of a piece whose end is read anew.
-use mathlib.Core.Path.{_≡_, refl, sym, ap, _∙_}
+use mathlib.Core.Path.{_≡_, refl, sym, ap, _∙_, subst}
 use mathlib.Core.List.{List, [], _∷_, _++_, append-assoc}
 use Prim.Native.Nat.{ℕ, zero, suc, _+_, _-_, _≤_, min}
 use native.Mathlib.Omega.{arith}
@@ -8,7 +8,7 @@ use lib.ListN.{length, take}
 use borrow.Rule.Slice.PartMut.{putMid}
 use lib.Seq.{paste, take-at, take-all, take-paste, take-append-add, length-take-le}
 use Rattle.io.specs.Counts.{Counts}
-use Rattle.tns_program.specs.Text.{after}
+use Rattle.tns_program.specs.Text.{after, Puts}
 
 -- what is taken of a list is no more than it has
 take-enough : (n : ℕ) (xs : List ℕ) → take n xs ≡ take (min (length xs) n) xs
@@ -43,16 +43,25 @@ pub after-after : (room : ℕ) (bytes first second : List ℕ) → after room (a
 unfolding after
 after-after room bytes first second = take-again room (bytes ++ first) second ∙ ap (take room) (append-assoc bytes first second)
 
--- the same, with the bytes in between given by name
-pub put-on : (room later : ℕ) (bytes first second between out : List ℕ) → between ≡ after room bytes first → out ≡ after later between second
-    → later ≡ room → out ≡ after room bytes (first ++ second)
-put-on room later bytes first second between out e f r =
-    f ∙ ap (λ (n : ℕ). after n between second) r ∙ ap (λ (b : List ℕ). after room b second) e ∙ after-after room bytes first second
+-- the same text in other words
+pub puts-same : {text other found left : List ℕ} {before count : ℕ} → text ≡ other → Puts text found before count left → Puts other found before count left
+puts-same {text} {other} {found} {left} {before} {count} e p = subst (λ (t : List ℕ). Puts t found before count left) e p
+
+pub puts-on : (first second found between left : List ℕ) (before middle count : ℕ) → Puts first found before middle between → Puts second between middle count left
+    → length between ≡ length found → Puts (first ++ second) found before count left
+puts-on first second found between left before middle count p q r =
+    let room = length found in
+    record {
+      counts = q .counts;
+      bytes =
+          q .bytes ∙ ap (λ (n : ℕ). after n (take middle between) second) r ∙ ap (λ (b : List ℕ). after room b second) (p .bytes)
+          ∙ after-after room (take before found) first second;
+    }
 
 -- the bytes before a part that is read anew
 pub held-kept : (held count : ℕ) (bytes part : List ℕ) → held ≤ length bytes → take held (putMid held count bytes part) ≡ take held bytes
 held-kept held count bytes part h = take-at (take held bytes) _ held (length-take-le held bytes h)
 
--- The contracts that speak of a text fix how many bytes there are, too: any two counts that one allows are the text's length.
+-- A contract that speaks of a text fixes how many bytes there are, too: any two counts that it allows are the text's length.
 pub counted : (count : ℕ) (out text : List ℕ) → Counts count out → take count out ≡ text → count ≡ length text
 counted count out text c e = c .1 ∙ ap length e

@@ -25,8 +25,8 @@ fn failed(what: &[u8]) {
 // One read of standard input, into `piece` after its first `held` bytes, which it leaves alone. A
 // failure is said at once.
 pub fn read_after(piece: &mut [u8], held: usize) -> Read
-    ensures { λ r. ⌜ Within held (length (now (piece .exit))) r ⌝ }
-    ensures { λ _. ⌜ take held (now (piece .exit)) ≡ take held (now (piece .entry)) ⌝ }
+    ensures within { λ r. ⌜ Within held (length (now (piece .exit))) r ⌝ }
+    ensures held { λ _. ⌜ take held (now (piece .exit)) ≡ take held (now (piece .entry)) ⌝ }
 {
     if held >= piece.len() {
         return Read::End;

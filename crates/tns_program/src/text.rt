@@ -1,9 +1,7 @@
 // Text in ASCII, put piece by piece into a slice that is written as a whole.
 ghost use mathlib.Core.Path.{_≡_};
 ghost use Prim.Native.Nat.{min};
-ghost use lib.ListN.{length, take};
-ghost use Rattle.io.specs.Counts.{Counts};
-ghost use Rattle.tns_program.specs.Text.{decimal, after};
+ghost use Rattle.tns_program.specs.Text.{decimal, Puts};
 
 fn least(a: usize, b: usize) -> usize
     ensures { λ r. ⌜ r ≡ min a b ⌝ }
@@ -14,8 +12,7 @@ fn least(a: usize, b: usize) -> usize
 // Puts a text after the first `at` bytes of `out`, as much of it as there is room for, and answers how
 // many bytes there are then.
 pub fn put(text: &[u8], out: &mut [u8], at: usize) -> usize
-    ensures { λ r. ⌜ Counts r (now (out .exit)) ⌝ }
-    ensures { λ r. ⌜ take r (now (out .exit)) ≡ after (length (now (out .entry))) (take at (now (out .entry))) (now (text .entry)) ⌝ }
+    ensures { λ r. ⌜ Puts (now (text .entry)) (now (out .entry)) at r (now (out .exit)) ⌝ }
 {
     let start = least(at, out.len());
     let count = least(text.len(), out.len() - start);
@@ -29,8 +26,7 @@ pub fn put(text: &[u8], out: &mut [u8], at: usize) -> usize
 
 // The same of a number in decimal.
 pub fn put_decimal(n: u64, out: &mut [u8], at: usize) -> usize
-    ensures { λ r. ⌜ Counts r (now (out .exit)) ⌝ }
-    ensures { λ r. ⌜ take r (now (out .exit)) ≡ after (length (now (out .entry))) (take at (now (out .entry))) (decimal n) ⌝ }
+    ensures { λ r. ⌜ Puts (decimal n) (now (out .entry)) at r (now (out .exit)) ⌝ }
 {
     let mut digits = [0u8; 20];
     let count = io::decimal(n, &mut digits);

@@ -7,7 +7,7 @@ use native.Mathlib.Omega.{arith}
 use lib.Dec.{ltb, eqb}
 use borrow.Author.Tests.{ltb-false, eqb-true}
 use lib.ListN.{length, getD}
-use Rattle.tns_refusals.specs.Refusals.{Verdict, refused, refusedAt, check, checkAt, lowestOver, sideChecks, SoundSide}
+use Rattle.tns_refusals.specs.Refusals.{Verdict, numbered, placed, refused, check, checkAt, lowestOver, sideChecks, SoundSide}
 use Rattle.tns_refusals.specs.declared.Over.{Over}
 use Rattle.tns_refusals.specs.declared.Over.the-variants.{Nowhere, At}
 
@@ -46,11 +46,11 @@ found-stands limit first (x ∷ xs) place found e = cases (ltb limit x) (λ furt
     cases false further e = later (further e)
 
 module _ {A : Type 0} (P : Verdict A → Type 0) where
-  pub check-by : (number : ℕ) (fault : Bool) (next : Verdict A) → P (refused number) → (fault ≡ false → P next) → P (check number fault next)
+  pub check-by : (number : ℕ) (bad : Bool) (next : Verdict A) → P (refused (numbered number)) → (bad ≡ false → P next) → P (check number bad next)
   check-by number true next stops goes = stops
   check-by number false next stops goes = goes refl
 
-  check-at-by : (number limit : ℕ) (xs : List ℕ) (next : Verdict A) → ((place : ℕ) → place < length xs → P (refusedAt number place (getD xs place 0)))
+  check-at-by : (number limit : ℕ) (xs : List ℕ) (next : Verdict A) → ((place : ℕ) → place < length xs → P (refused (placed number place (getD xs place 0))))
       → (lowestOver limit 0 xs ≡ Nowhere → P next) → P (checkAt number (lowestOver limit 0 xs) next)
   check-at-by number limit xs next stops goes = cases (lowestOver limit 0 xs) refl
     where
@@ -59,13 +59,13 @@ module _ {A : Type 0} (P : Verdict A → Type 0) where
       cases (At place found) e =
           let s = found-stands limit 0 xs place found e in
           let k : place - 0 ≡ place = omega arith in
-          subst (λ (f : ℕ). P (refusedAt number place f)) (subst (λ (k : ℕ). getD xs k 0 ≡ found) k (s .its-number))
+          subst (λ (f : ℕ). P (refused (placed number place f))) (subst (λ (k : ℕ). getD xs k 0 ≡ found) k (s .its-number))
           (stops place (omega (arith, s .before-end)))
 
   -- checks 4 to 7: a refusal 6 names one of the two orders, 7 one of the sixteen indices, and what follows has sound side data before it
-  pub sides-by : (filters : ℕ) (orders indices : List ℕ) (next : Verdict A) → P (refused 4) → P (refused 5)
-      → ((place : ℕ) → place < 2 → P (refusedAt 6 place (getD orders place 0)))
-      → ((place : ℕ) → place < 16 → P (refusedAt 7 place (getD indices place 0)))
+  pub sides-by : (filters : ℕ) (orders indices : List ℕ) (next : Verdict A) → P (refused (numbered 4)) → P (refused (numbered 5))
+      → ((place : ℕ) → place < 2 → P (refused (placed 6 place (getD orders place 0))))
+      → ((place : ℕ) → place < 16 → P (refused (placed 7 place (getD indices place 0))))
       → (SoundSide filters orders indices → P next) → P (sideChecks filters orders indices next)
   unfolding sideChecks
   sides-by filters orders indices next stops4 stops5 stops6 stops7 goes = cases (eqb (length orders) 2) refl (eqb (length indices) 16) refl

@@ -2,19 +2,17 @@
 -- its `ensures` as the checker reads it off the source. A result that the contract equates with a definition says itself. An answer that is an
 -- enum says the paper's numbers, and these give the answer back. There is one NaN in the logic, so a NaN result would leave its bits open.
 use mathlib.Core.Path.{_≡_, refl, sym, _∙_, ap}
-use mathlib.Core.Bool.{cond}
 use mathlib.Core.List.{List}
 use Prim.Native.Nat.{ℕ}
-use lib.Dec.{eqb}
 use contract.Lifetimes.{Lfts}
 use denote.Triple.Clauses.{AtExit}
 use borrow.Fn.Kind.{PK, RK}
 use borrow.Fn.Kinds.{Out, Dens, resT, endedOf}
-use Rattle.tns_refusals.specs.Refusals.{Verdict, accepted, refused, refusedAt, says, sideSays}
+use Rattle.tns_refusals.specs.Refusals.{Verdict, accepted, refused, sideSays}
 use Rattle.tns_refusals.specs.declared.Refusal.{Refusal}
-use Rattle.tns_refusals.specs.declared.Refusal.the-variants.{Duration, Bandwidth, SpectrumLength, ListLength, FilterCount, Order, Index, Weighting}
 use Rattle.tns_refusals.specs.declared.SideAnswer.{SideAnswer}
 use Rattle.tns_refusals.specs.declared.SideAnswer.the-variants.{Sound, Refused}
+use Rattle.tns_refusals.proofs.Eight.{refusalBack, of-eight}
 use Rattle.tns_refusals.proofs.Refusal.number.Kinds as number-kinds
 use Rattle.tns_refusals.proofs.Refusal.number.Reads as number-reads
 use Rattle.tns_refusals.proofs.Refusal.place.Kinds as place-kinds
@@ -59,26 +57,14 @@ found κs a x y s t p q = itself p q
 
 -- ---- an answer that says the paper's numbers
 
--- the answer back from its number, place and found value
+-- the answer back from its verdict
 abbrev pub answerBack : {A R : Type 0} → (A → R) → (Refusal → R) → Verdict A → R
 answerBack accept refuse (accepted a) = accept a
-answerBack accept refuse (refused n) =
-    refuse (cond (eqb n 1) Duration (cond (eqb n 2) Bandwidth (cond (eqb n 3) SpectrumLength (cond (eqb n 4) ListLength (cond (eqb n 5) FilterCount Weighting)))))
-answerBack accept refuse (refusedAt n place found) = refuse (cond (eqb n 6) (Order place found) (Index place found))
-
-pub refused-back : {A R : Type 0} (accept : A → R) (refuse : Refusal → R) (why : Refusal) → answerBack accept refuse (says why) ≡ refuse why
-refused-back accept refuse Duration = refl
-refused-back accept refuse Bandwidth = refl
-refused-back accept refuse SpectrumLength = refl
-refused-back accept refuse ListLength = refl
-refused-back accept refuse FilterCount = refl
-refused-back accept refuse (Order place found) = refl
-refused-back accept refuse (Index place found) = refl
-refused-back accept refuse Weighting = refl
+answerBack accept refuse (refused fault) = refuse (refusalBack fault)
 
 sideBack : (answer : SideAnswer) → answerBack (λ (u : Unit {0}). Sound) Refused (sideSays answer) ≡ answer
 sideBack Sound = refl
-sideBack (Refused why) = refused-back (λ (u : Unit {0}). Sound) Refused why
+sideBack (Refused why) = ap Refused (of-eight why .back)
 
 check-side : Determined 2 check-side-kinds.ps check-side-kinds.r check-side-reads.Post
 check-side κs a x y s t p q = coincide sideSays (answerBack (λ u. Sound) Refused) sideBack p q

@@ -12,44 +12,60 @@ use Rattle.tns_refusals.specs.declared.Over.the-variants.{Nowhere, At}
 use Rattle.tns_refusals.specs.declared.SideAnswer.{SideAnswer}
 use Rattle.tns_refusals.specs.declared.SideAnswer.the-variants.{Sound, Refused}
 
--- A call is accepted with a result, refused by number alone, or refused by number (6, 7) with the lowest bad place and the number found there.
+-- Why a call is refused: a number alone, or a number (6, 7) with the lowest bad place and the number found there. A call of another kind, as of a
+-- file or a text, has refusals of its own; they are faults too, and what is said here of verdicts holds of them.
+pub data Fault : Type 0 where
+  numbered : ℕ → Fault
+  placed : ℕ → ℕ → ℕ → Fault
+
+-- a call is accepted with a result, or refused
 pub data Verdict (A : Type 0) : Type 0 where
   accepted : A → Verdict A
-  refused : ℕ → Verdict A
-  refusedAt : ℕ → ℕ → ℕ → Verdict A
+  refused : Fault → Verdict A
 
 -- the paper's number, place and found value of each refusal
-abbrev pub says : {A : Type 0} → Refusal → Verdict A
-says Duration = refused 1
-says Bandwidth = refused 2
-says SpectrumLength = refused 3
-says ListLength = refused 4
-says FilterCount = refused 5
-says (Order place found) = refusedAt 6 place found
-says (Index place found) = refusedAt 7 place found
-says Weighting = refused 8
+abbrev pub says : Refusal → Fault
+says Duration = numbered 1
+says Bandwidth = numbered 2
+says SpectrumLength = numbered 3
+says ListLength = numbered 4
+says FilterCount = numbered 5
+says (Order place found) = placed 6 place found
+says (Index place found) = placed 7 place found
+says Weighting = numbered 8
 
--- the number, the place and the found value that a verdict names, and 0 where it names none
-abbrev pub numberIn : {A : Type 0} → Verdict A → ℕ
-numberIn (accepted a) = 0
-numberIn (refused number) = number
-numberIn (refusedAt number place found) = number
+-- the number of a fault, and its place and found value, which are 0 where it names none
+abbrev pub numberOf : Fault → ℕ
+numberOf (numbered number) = number
+numberOf (placed number place found) = number
 
-abbrev pub placeIn : {A : Type 0} → Verdict A → ℕ
-placeIn (accepted a) = 0
-placeIn (refused number) = 0
-placeIn (refusedAt number place found) = place
+abbrev pub placeOf : Fault → ℕ
+placeOf (numbered number) = 0
+placeOf (placed number place found) = place
 
-abbrev pub foundIn : {A : Type 0} → Verdict A → ℕ
-foundIn (accepted a) = 0
-foundIn (refused number) = 0
-foundIn (refusedAt number place found) = found
+abbrev pub foundOf : Fault → ℕ
+foundOf (numbered number) = 0
+foundOf (placed number place found) = found
 
--- the bits of an accepted call, read off its result, and 0 of a refused one
-abbrev pub bitsIn : {A : Type 0} → (A → ℕ) → Verdict A → ℕ
-bitsIn bits (accepted a) = bits a
-bitsIn bits (refused number) = 0
-bitsIn bits (refusedAt number place found) = 0
+-- what is made of the result of an accepted call; of a refused one, what was there before
+abbrev pub unlessRefused : {A B : Type 0} → Verdict A → (A → B) → B → B
+unlessRefused (accepted a) made before = made a
+unlessRefused (refused fault) made before = before
+
+-- what is read off the fault of a refused call; of an accepted one, 0
+abbrev pub ofFault : {A : Type 0} → (Fault → ℕ) → Verdict A → ℕ
+ofFault read (accepted a) = 0
+ofFault read (refused fault) = read fault
+
+-- what holds of an accepted call
+abbrev pub IfAccepted : {A : Type 0} → Verdict A → Type 0 → Type 0
+IfAccepted (accepted a) P = P
+IfAccepted (refused fault) P = Unit {0}
+
+-- the same verdict, of another result
+abbrev pub onAccepted : {A B : Type 0} → (A → B) → Verdict A → Verdict B
+onAccepted made (accepted a) = accepted (made a)
+onAccepted made (refused fault) = refused fault
 
 -- the bits of a result: a decoded spectrum has none, and a cost is its bits
 abbrev pub noBits : Unit {0} → ℕ
@@ -58,9 +74,13 @@ noBits u = 0
 abbrev pub itsBits : ℕ → ℕ
 itsBits bits = bits
 
+-- the bits of an accepted call, read off its result, and 0 of a refused one
+abbrev pub bitsIn : {A : Type 0} → (A → ℕ) → Verdict A → ℕ
+bitsIn bits verdict = unlessRefused verdict bits 0
+
 -- Checks run in number order and the first stands: one that finds no fault leaves the answer to what follows.
 abbrev pub check : {A : Type 0} → ℕ → Bool → Verdict A → Verdict A
-check number fault next = cond fault (refused number) next
+check number bad next = cond bad (refused (numbered number)) next
 
 -- the lowest place whose number is over a limit, with that number; `place` is the first one's
 unfoldable pub lowestOver : ℕ → ℕ → List ℕ → Over
@@ -74,7 +94,7 @@ isNowhere (At place found) = false
 
 abbrev pub checkAt : {A : Type 0} → ℕ → Over → Verdict A → Verdict A
 checkAt number Nowhere next = next
-checkAt number (At place found) next = refusedAt number place found
+checkAt number (At place found) next = refused (placed number place found)
 
 -- 4: orders not 2 long, or indices not 16 long. 5: filter count over 2. 6: an order over 8, used or not. 7: an index over 16, used or not
 unfoldable pub sideChecks : {A : Type 0} → ℕ → List ℕ → List ℕ → Verdict A → Verdict A
@@ -100,4 +120,4 @@ noFault = accepted tt
 -- what the shared check of 4 to 7 says
 abbrev pub sideSays : SideAnswer → Verdict (Unit {0})
 sideSays Sound = noFault
-sideSays (Refused why) = says why
+sideSays (Refused why) = refused (says why)

@@ -2,7 +2,7 @@
 // for decode and cost.
 ghost use mathlib.Core.Path.{_≡_};
 ghost use mathlib.Core.Bool.{false};
-ghost use Rattle.tns_refusals.specs.Refusals.{noFault, says, numberIn, placeIn, foundIn, lowestOver, isNowhere, sideChecks, sideSays};
+ghost use Rattle.tns_refusals.specs.Refusals.{noFault, says, numberOf, placeOf, foundOf, lowestOver, isNowhere, sideChecks, sideSays};
 
 // Why a call is refused, in the order of document 01's numbers 1 to 8. A refusal of an order or an
 // index holds the lowest bad place and the number found there.
@@ -20,7 +20,7 @@ pub enum Refusal {
 impl Refusal {
     // Document 01's number.
     pub fn number(self) -> u8
-        ensures { λ r. ⌜ r ≡ numberIn (says {A = Unit {0}} self) ⌝ }
+        ensures { λ r. ⌜ r ≡ numberOf (says self) ⌝ }
     {
         match self {
             Refusal::Duration => 1,
@@ -36,7 +36,7 @@ impl Refusal {
 
     // The lowest bad place of refusals 6 and 7, and 0 of the others.
     pub fn place(self) -> usize
-        ensures { λ r. ⌜ r ≡ placeIn (says {A = Unit {0}} self) ⌝ }
+        ensures { λ r. ⌜ r ≡ placeOf (says self) ⌝ }
     {
         match self {
             Refusal::Order { place, found: _ } => place,
@@ -52,7 +52,7 @@ impl Refusal {
 
     // The number found at that place, and 0 of the others.
     pub fn found(self) -> u8
-        ensures { λ r. ⌜ r ≡ foundIn (says {A = Unit {0}} self) ⌝ }
+        ensures { λ r. ⌜ r ≡ foundOf (says self) ⌝ }
     {
         match self {
             Refusal::Order { place: _, found } => found,

@@ -1,6 +1,7 @@
 -- f32 arithmetic as the definitions write it: two numbers that they name, and the four operations, each of which rounds once.
 use lib.Ieee.{Float, add, sub, mul, div, binary32, ofBits}
 
+-- +0 and 1
 abbrev pub f0 : Float
 f0 = ofBits binary32 0x00000000
 

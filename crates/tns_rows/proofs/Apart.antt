@@ -15,7 +15,7 @@ use lib.Seq.{length-take-le, getD-append-add, getD-take, getD-drop, take-at, dro
 use Rattle.tns_lists.specs.Every.{every}
 use Rattle.tns_lists.proofs.Every.{every-at}
 use Rattle.tns_lists.proofs.Every.{and-left, and-right}
-use Rattle.tns_rows.specs.Durations.{kept}
+use Rattle.tns_rows.specs.Durations.{numbersOf}
 use Rattle.tns_rows.specs.Bands.{rowsOf, bandFrom, rowOf, bandOf, lastStop, inside, within}
 use Rattle.tns_rows.specs.declared.duration.Duration.{Duration}
 use Rattle.tns_rows.specs.declared.duration.Duration.the-variants.{Ten, SevenPointFive}
@@ -107,12 +107,12 @@ laidOut firstLine row =
     (notBefore firstLine (bandFrom 0 row) && notBefore firstLine (bandFrom 4 row))
     && apartIn row
 
-all-laid-out : (d : Duration) → every (laidOut (kept d .firstLine)) (rowsOf d) ≡ true
+all-laid-out : (d : Duration) → every (laidOut (numbersOf d .firstLine)) (rowsOf d) ≡ true
 unfolding laidOut notBefore apartIn
 all-laid-out Ten = refl
 all-laid-out SevenPointFive = refl
 
-none-laid-out : (d : Duration) → laidOut (kept d .firstLine) [] ≡ true
+none-laid-out : (d : Duration) → laidOut (numbersOf d .firstLine) [] ≡ true
 unfolding laidOut notBefore apartIn
 none-laid-out Ten = refl
 none-laid-out SevenPointFive = refl
@@ -121,12 +121,12 @@ none-laid-out SevenPointFive = refl
 startsBy : ℕ → List ℕ → Bool
 startsBy firstLine row = leb (bandFrom 0 row .start) firstLine
 
-all-start-by : (d : Duration) → every (startsBy (kept d .firstLine)) (rowsOf d) ≡ true
+all-start-by : (d : Duration) → every (startsBy (numbersOf d .firstLine)) (rowsOf d) ≡ true
 unfolding startsBy
 all-start-by Ten = refl
 all-start-by SevenPointFive = refl
 
-none-start-by : (d : Duration) → startsBy (kept d .firstLine) [] ≡ true
+none-start-by : (d : Duration) → startsBy (numbersOf d .firstLine) [] ≡ true
 unfolding startsBy
 none-start-by Ten = refl
 none-start-by SevenPointFive = refl
@@ -145,15 +145,15 @@ module _ (d : Duration) (bandwidth : ℕ) where
   numbers : List ℕ
   numbers = getD (rowsOf d) bandwidth []
 
-  laid-out : laidOut (kept d .firstLine) numbers ≡ true
+  laid-out : laidOut (numbersOf d .firstLine) numbers ≡ true
   unfolding numbers
-  laid-out = every-at (laidOut (kept d .firstLine)) (rowsOf d) (all-laid-out d) [] (none-laid-out d) bandwidth
+  laid-out = every-at (laidOut (numbersOf d .firstLine)) (rowsOf d) (all-laid-out d) [] (none-laid-out d) bandwidth
 
-  early-fit : (notBefore (kept d .firstLine) (bandFrom 0 numbers) ≡ true) × (notBefore (kept d .firstLine) (bandFrom 4 numbers) ≡ true)
+  early-fit : (notBefore (numbersOf d .firstLine) (bandFrom 0 numbers) ≡ true) × (notBefore (numbersOf d .firstLine) (bandFrom 4 numbers) ≡ true)
   unfolding laidOut
   early-fit =
-      let first = notBefore (kept d .firstLine) (bandFrom 0 numbers) in
-      let second = notBefore (kept d .firstLine) (bandFrom 4 numbers) in
+      let first = notBefore (numbersOf d .firstLine) (bandFrom 0 numbers) in
+      let second = notBefore (numbersOf d .firstLine) (bandFrom 4 numbers) in
       let both-fit = and-left (first && second) (apartIn numbers) laid-out in
       (and-left first second both-fit, and-right first second both-fit)
 
@@ -164,13 +164,13 @@ module _ (d : Duration) (bandwidth : ℕ) where
       let second = bandFrom 4 numbers in
       ⊎-elim (λ e. inl (leb-true _ _ e)) (λ e. inr (leb-true _ _ e))
       (either (leb (first .stop) (second .start)) (leb (second .stop) (first .start))
-      (and-right (notBefore (kept d .firstLine) first && notBefore (kept d .firstLine) second) (apartIn numbers) laid-out))
+      (and-right (notBefore (numbersOf d .firstLine) first && notBefore (numbersOf d .firstLine) second) (apartIn numbers) laid-out))
 
   -- no band reaches before the duration's first line
-  pub early-outside : (k i : ℕ) → i < kept d .firstLine → Outside (bandOf (rowOf d bandwidth) k) i
+  pub early-outside : (k i : ℕ) → i < numbersOf d .firstLine → Outside (bandOf (rowOf d bandwidth) k) i
   unfolding rowOf numbers
-  early-outside zero i h = not-before-outside (kept d .firstLine) (bandFrom 0 numbers) i (early-fit .0) h
-  early-outside (suc zero) i h = not-before-outside (kept d .firstLine) (bandFrom 4 numbers) i (early-fit .1) h
+  early-outside zero i h = not-before-outside (numbersOf d .firstLine) (bandFrom 0 numbers) i (early-fit .0) h
+  early-outside (suc zero) i h = not-before-outside (numbersOf d .firstLine) (bandFrom 4 numbers) i (early-fit .1) h
   early-outside (suc (suc k)) i h = inr (omega arith)
 
   -- nor past the row's last stop
@@ -179,14 +179,14 @@ module _ (d : Duration) (bandwidth : ℕ) where
   late-outside (suc zero) i h = inr (omega arith)
   late-outside (suc (suc k)) i h = inr (omega arith)
 
-  first-by : rowOf d bandwidth .first .start ≤ kept d .firstLine
+  first-by : rowOf d bandwidth .first .start ≤ numbersOf d .firstLine
   unfolding rowOf startsBy
-  first-by = leb-true _ _ (every-at (startsBy (kept d .firstLine)) (rowsOf d) (all-start-by d) [] (none-start-by d) bandwidth)
+  first-by = leb-true _ _ (every-at (startsBy (numbersOf d .firstLine)) (rowsOf d) (all-start-by d) [] (none-start-by d) bandwidth)
 
   -- so a line of either band lies from the first band's start to the last band's end
   pub in-row : (k i : ℕ) → bandOf (rowOf d bandwidth) k .start ≤ i → i < bandOf (rowOf d bandwidth) k .stop
       → (rowOf d bandwidth .first .start ≤ i) × (i < lastStop (rowOf d bandwidth))
   in-row k i from to =
       let band = bandOf (rowOf d bandwidth) k in
-      let late : kept d .firstLine < suc i = lt-of-not-le (λ (early : suc i ≤ kept d .firstLine). not-outside band i from to (early-outside k i early)) in
+      let late : numbersOf d .firstLine < suc i = lt-of-not-le (λ (early : suc i ≤ numbersOf d .firstLine). not-outside band i from to (early-outside k i early)) in
       (omega (arith, late, first-by), lt-of-not-le (λ (past : lastStop (rowOf d bandwidth) ≤ i). not-outside band i from to (late-outside k i past)))

@@ -1,5 +1,5 @@
--- Laws of the bands of a row: they are in order, which one computed test says of the rows of both durations, and a spectrum is what lies before,
--- in and after a band.
+-- Laws of the bands of a row: their cuts are in order, which one computed test says of the rows of both durations, and a spectrum is what lies
+-- before, in and after a band.
 use mathlib.Core.Path.{_≡_, refl, sym, _∙_, ap}
 use mathlib.Core.Bool.{Bool, true, _&&_}
 use mathlib.Core.List.{List, [], _++_}
@@ -28,24 +28,49 @@ pub record SoundRow (row : Row) (lines : ℕ) : Type 0 where
   pub first-fits : Fits (row .first) lines
   pub second-fits : Fits (row .second) lines
 
--- both bands of a row are in order: one test over all rows, which a row of no numbers passes too
-ordered : List ℕ → Bool
-ordered row = leb (bandFrom 0 row .start) (bandFrom 0 row .stop) && leb (bandFrom 4 row .start) (bandFrom 4 row .stop)
+-- the cuts of a band lie in order between its start and its stop
+pub record Cut (band : Band) : Type 0 where
+  pub lowest : band .start ≤ band .«first_cut»
+  pub middle : band .«first_cut» ≤ band .«second_cut»
+  pub highest : band .«second_cut» ≤ band .stop
 
-all-ordered : (d : Duration) → every ordered (rowsOf d) ≡ true
-unfolding ordered
-all-ordered Ten = refl
-all-ordered SevenPointFive = refl
+in-order : Band → Bool
+in-order b = leb (b .start) (b .«first_cut») && (leb (b .«first_cut») (b .«second_cut») && leb (b .«second_cut») (b .stop))
 
-pub row-ordered : (d : Duration) (bandwidth : ℕ) →
-    (rowOf d bandwidth .first .start ≤ rowOf d bandwidth .first .stop) × (rowOf d bandwidth .second .start ≤ rowOf d bandwidth .second .stop)
-unfolding rowOf ordered
-row-ordered d bandwidth =
+-- one test over all rows, which a row of no numbers passes too
+cut-in-order : List ℕ → Bool
+cut-in-order row = in-order (bandFrom 0 row) && in-order (bandFrom 4 row)
+
+all-cut : (d : Duration) → every cut-in-order (rowsOf d) ≡ true
+unfolding cut-in-order in-order
+all-cut Ten = refl
+all-cut SevenPointFive = refl
+
+is-cut : (b : Band) → in-order b ≡ true → Cut b
+unfolding in-order
+is-cut b e =
+    let first = leb (b .start) (b .«first_cut») in
+    let second = leb (b .«first_cut») (b .«second_cut») in
+    let third = leb (b .«second_cut») (b .stop) in
+    let rest = and-right first (second && third) e in
+    record {
+      lowest = leb-true _ _ (and-left first (second && third) e);
+      middle = leb-true _ _ (and-left second third rest);
+      highest = leb-true _ _ (and-right second third rest);
+    }
+
+pub row-cut : (d : Duration) (bandwidth : ℕ) → Cut (rowOf d bandwidth .first) × Cut (rowOf d bandwidth .second)
+unfolding rowOf cut-in-order in-order
+row-cut d bandwidth =
     let row = getD (rowsOf d) bandwidth [] in
-    let e = every-at ordered (rowsOf d) (all-ordered d) [] refl bandwidth in (
-      leb-true _ _ (and-left (leb (bandFrom 0 row .start) (bandFrom 0 row .stop)) (leb (bandFrom 4 row .start) (bandFrom 4 row .stop)) e),
-      leb-true _ _ (and-right (leb (bandFrom 0 row .start) (bandFrom 0 row .stop)) (leb (bandFrom 4 row .start) (bandFrom 4 row .stop)) e),
-    )
+    let all = every-at cut-in-order (rowsOf d) (all-cut d) [] refl bandwidth in
+    let first = in-order (bandFrom 0 row) in
+    let second = in-order (bandFrom 4 row) in
+    (is-cut (bandFrom 0 row) (and-left first second all), is-cut (bandFrom 4 row) (and-right first second all))
+
+-- so a band starts no later than it stops, and lies within as many lines as its stop
+pub cut-fits : (band : Band) (lines : ℕ) → Cut band → band .stop ≤ lines → Fits band lines
+cut-fits band lines cut end = record { order = omega (arith, cut .lowest, cut .middle, cut .highest); end = end }
 
 -- a spectrum whose band comes back changed, as the logic has it and as the definition has it
 pub band-back : {A : Type 0} (band : Band) (xs ys : List A) → band .start ≤ band .stop

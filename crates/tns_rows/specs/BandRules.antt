@@ -5,7 +5,7 @@ use mathlib.Core.List.{List}
 use Prim.Native.Nat.{ℕ}
 use lib.Dec.{eqb, leb, ltb}
 use Rattle.tns_lists.specs.Every.{every}
-use Rattle.tns_rows.specs.Durations.{Kept, kept}
+use Rattle.tns_rows.specs.Durations.{numbersOf, DurationNumbers}
 use Rattle.tns_rows.specs.Bands.{tenMsRows, sevenPointFiveMsRows, bandFrom}
 use Rattle.tns_rows.specs.declared.duration.Duration.the-variants.{Ten, SevenPointFive}
 use Rattle.tns_rows.specs.declared.row.Band.{Band}
@@ -20,12 +20,12 @@ unfolding cut
 adjoins a b = eqb (b .stop) 0 && eqb (b .start) 0 || eqb (b .start) (a .stop) && cut b
 
 -- the first start is the duration's first line, the last stop is at most its longest, cuts are inside their band, bands adjoin, so that starts rise
-unfoldable pub rowRule : Kept → List ℕ → Bool
+unfoldable pub rowRule : DurationNumbers → List ℕ → Bool
 unfolding cut adjoins
 rowRule d row =
     eqb (bandFrom 0 row .start) (d .firstLine) && cut (bandFrom 0 row) && adjoins (bandFrom 0 row) (bandFrom 4 row)
     && leb (bandFrom 0 row .stop) (d .longest) && leb (bandFrom 4 row .stop) (d .longest)
 
-pub rows-keep-their-rules : every (rowRule (kept Ten)) tenMsRows && every (rowRule (kept SevenPointFive)) sevenPointFiveMsRows ≡ true
+pub rows-keep-their-rules : every (rowRule (numbersOf Ten)) tenMsRows && every (rowRule (numbersOf SevenPointFive)) sevenPointFiveMsRows ≡ true
 unfolding rowRule
 rows-keep-their-rules = refl

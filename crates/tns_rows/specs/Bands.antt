@@ -1,8 +1,9 @@
 -- Document 01, "Band rows": the bands of each duration and bandwidth with their cuts, and the lines of a band.
 use mathlib.Core.List.{List, [], _∷_, _++_}
-use Prim.Native.Nat.{ℕ, zero, suc, _+_, _-_, max}
+use Prim.Native.Nat.{ℕ, zero, suc, _+_, max}
 use lib.ListN.{getD, take, drop}
 use lib.Ieee.{Float}
+use Rattle.tns_lists.specs.Places.{part}
 use Rattle.tns_rows.specs.declared.duration.Duration.{Duration}
 use Rattle.tns_rows.specs.declared.duration.Duration.the-variants.{Ten, SevenPointFive}
 use Rattle.tns_rows.specs.declared.row.Band.{Band}
@@ -58,7 +59,7 @@ lastStop row = max (row .first .stop) (row .second .stop)
 
 -- the lines of a band
 abbrev pub inside : Band → List Float → List Float
-inside band lines = take (band .stop - band .start) (drop (band .start) lines)
+inside band lines = part (band .start) (band .stop) lines
 
 -- the lines with something done to those of a band
 abbrev pub within : Band → (List Float → List Float) → List Float → List Float

@@ -6,15 +6,15 @@ use Rattle.tns_rows.specs.declared.duration.Duration.{Duration}
 use Rattle.tns_rows.specs.declared.duration.Duration.the-variants.{Ten, SevenPointFive}
 
 -- each duration keeps its own first line, longest spectrum and weighting limit
-pub record Kept : Type 0 where
+pub record DurationNumbers : Type 0 where
   pub firstLine : ℕ
   pub longest : ℕ
   pub weightingLimit : ℕ
 
 -- 12, 400, 480 and 9, 300, 360
-abbrev pub kept : Duration → Kept
-kept Ten = record { firstLine = 12; longest = 400; weightingLimit = 480 }
-kept SevenPointFive = record { firstLine = 9; longest = 300; weightingLimit = 360 }
+abbrev pub numbersOf : Duration → DurationNumbers
+numbersOf Ten = record { firstLine = 12; longest = 400; weightingLimit = 480 }
+numbersOf SevenPointFive = record { firstLine = 9; longest = 300; weightingLimit = 360 }
 
 -- The duration of a code: 0 is 10 ms and 1 is 7.5 ms. No other code passes check 1.
 abbrev pub durationOf : ℕ → Duration
@@ -22,5 +22,5 @@ durationOf zero = Ten
 durationOf (suc code) = SevenPointFive
 
 -- weighting is 1 if the bit number is below the limit, else 0
-unfoldable pub weightingOf : Kept → ℕ → ℕ
+unfoldable pub weightingOf : DurationNumbers → ℕ → ℕ
 weightingOf d nbits = cond (ltb nbits (d .weightingLimit)) 1 0

@@ -1,6 +1,6 @@
 // The two frame durations. Each keeps its own numbers as associated constants of its type.
 ghost use mathlib.Core.Path.{_≡_};
-ghost use Rattle.tns_rows.specs.Durations.{kept, durationOf, weightingOf};
+ghost use Rattle.tns_rows.specs.Durations.{durationOf, weightingOf, numbersOf};
 
 pub struct TenMs;
 
@@ -46,7 +46,7 @@ pub fn duration_of(code: u8) -> Duration
 
 // The longest spectrum of a duration.
 pub fn longest(duration: Duration) -> usize
-    ensures { λ r. ⌜ r ≡ kept duration .longest ⌝ }
+    ensures { λ r. ⌜ r ≡ numbersOf duration .longest ⌝ }
 {
     match duration {
         Duration::Ten => TenMs::LONGEST,
@@ -55,7 +55,7 @@ pub fn longest(duration: Duration) -> usize
 }
 
 fn weighting_limit(duration: Duration) -> u64
-    ensures { λ r. ⌜ r ≡ kept duration .weightingLimit ⌝ }
+    ensures { λ r. ⌜ r ≡ numbersOf duration .weightingLimit ⌝ }
 {
     match duration {
         Duration::Ten => TenMs::WEIGHTING_LIMIT,
@@ -65,7 +65,7 @@ fn weighting_limit(duration: Duration) -> u64
 
 // The weighting of a frame of so many bits: E's `lpc_weighting`.
 pub fn lpc_weighting(duration: Duration, nbits: u64) -> u8
-    ensures { λ r. ⌜ r ≡ weightingOf (kept duration) nbits ⌝ }
+    ensures { λ r. ⌜ r ≡ weightingOf (numbersOf duration) nbits ⌝ }
 {
     if nbits < weighting_limit(duration) {
         1

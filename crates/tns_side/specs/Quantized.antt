@@ -2,7 +2,8 @@
 use mathlib.Core.List.{List, map}
 use lib.ListN.{replicate}
 use lib.Ieee.{Float}
-use Rattle.tns_index.specs.Quantizer.{indexOf, coefficientOf, orderOf, plusZero}
+use Rattle.tns_rounding.specs.Floats.{f0}
+use Rattle.tns_index.specs.Quantizer.{indexOf, coefficientOf, orderOf}
 use Rattle.tns_side.specs.declared.Quantized.{Quantized}
 
 -- their indices, the coefficients that these stand for, and the order
@@ -13,4 +14,4 @@ quantizedOf reflections =
 
 -- a filter that the row doesn't have gets order 0, eights and zeros
 unfoldable pub absent : Quantized
-absent = record { order = 0; indices = replicate 8 8; coefficients = replicate 8 plusZero }
+absent = record { order = 0; indices = replicate 8 8; coefficients = replicate 8 f0 }

@@ -3,8 +3,9 @@ use mathlib.Core.List.{List, [], _∷_, _++_}
 use Prim.Native.Nat.{ℕ}
 use lib.ListN.{replicate}
 use lib.Ieee.{Float}
-use Rattle.tns_index.specs.Quantizer.{plusZero}
+use Rattle.tns_rounding.specs.Floats.{f0}
 use Rattle.tns_cost.specs.Cost.{countedBits}
+use Rattle.tns_cost.specs.Records.{Fields, bytesOf}
 use Rattle.tns_side.specs.declared.Quantized.{Quantized}
 use Rattle.tns_side.specs.declared.SideData.{SideData}
 
@@ -18,9 +19,13 @@ indicesIn side = side .first .indices ++ side .second .indices
 abbrev pub coefficientsIn : SideData → List Float
 coefficientsIn side = side .first .coefficients ++ side .second .coefficients
 
--- the 20 bytes of the bits program: weighting, filter count, two orders, sixteen indices
+-- the fields of its record
+abbrev pub fieldsIn : SideData → Fields
+fieldsIn side = record { weighting = side .weighting; filters = side .filters; orders = ordersIn side; indices = indicesIn side }
+
+-- the 20 bytes of the bits program
 abbrev pub recordOf : SideData → List ℕ
-recordOf side = side .weighting ∷ side .filters ∷ ordersIn side ++ indicesIn side
+recordOf side = bytesOf (fieldsIn side)
 
 -- its cost
 abbrev pub bitsOf : SideData → ℕ
@@ -28,7 +33,7 @@ bitsOf side = countedBits (side .weighting) (side .filters) (ordersIn side) (ind
 
 -- a refusal gives no other results
 abbrev pub noFilter : Quantized
-noFilter = record { order = 0; indices = replicate 8 0; coefficients = replicate 8 plusZero }
+noFilter = record { order = 0; indices = replicate 8 0; coefficients = replicate 8 f0 }
 
 abbrev pub noSide : SideData
 noSide = record { weighting = 0; filters = 0; first = noFilter; second = noFilter }

@@ -1,15 +1,15 @@
 -- Document 01, "Table of marked cases", the program: the line of text for a record.
 use mathlib.Core.List.{List, _++_}
 use Prim.Native.Nat.{ℕ}
-use Rattle.tns_refusals.specs.Refusals.{Verdict, accepted, refused, refusedAt}
+use Rattle.tns_refusals.specs.Refusals.{numbered, placed, Verdict, accepted, refused}
 use Rattle.tns_cost.specs.Records.{Line, short, costs}
 use Rattle.tns_program.specs.Text.{ascii, decimal}
 
 -- it always says "bits", also for 1; refusals 6 and 7 end with their place, the others after their number
 abbrev pub answerText : Verdict ℕ → List ℕ
 answerText (accepted bits) = decimal bits ++ ascii " bits"
-answerText (refused number) = ascii "refused " ++ decimal number
-answerText (refusedAt number place found) = ascii "refused " ++ decimal number ++ ascii " at " ++ decimal place
+answerText (refused (numbered number)) = ascii "refused " ++ decimal number
+answerText (refused (placed number place found)) = ascii "refused " ++ decimal number ++ ascii " at " ++ decimal place
 
 abbrev pub sayingText : Line → List ℕ
 sayingText short = ascii "short"

@@ -4,26 +4,21 @@ use tns_cost::RecordAnswer;
 use tns_program::put;
 use tns_program::put_decimal;
 use tns_refusals::Refusal;
-ghost use mathlib.Core.Path.{_≡_};
-ghost use lib.ListN.{length, take};
-ghost use Rattle.io.specs.Counts.{Counts};
-ghost use Rattle.tns_refusals.specs.Refusals.{refused, refusedAt, says};
+ghost use Rattle.tns_refusals.specs.Refusals.{numbered, placed, refused, says};
 ghost use Rattle.tns_cost.specs.Cost.{costSays};
 ghost use Rattle.tns_cost.specs.Records.{lineOf};
-ghost use Rattle.tns_program.specs.Text.{after};
+ghost use Rattle.tns_program.specs.Text.{Puts};
 ghost use Rattle.tns_wording.specs.Wording.{answerText, sayingText, lineText};
 
 fn put_number(number: u8, out: &mut [u8], at: usize) -> usize
-    ensures { λ r. ⌜ Counts r (now (out .exit)) ⌝ }
-    ensures { λ r. ⌜ take r (now (out .exit)) ≡ after (length (now (out .entry))) (take at (now (out .entry))) (answerText (refused number)) ⌝ }
+    ensures { λ r. ⌜ Puts (answerText (refused (numbered number))) (now (out .entry)) at r (now (out .exit)) ⌝ }
 {
     let named = put(b"refused ", out, at);
     put_decimal(number as u64, out, named)
 }
 
 fn put_place(number: u8, place: usize, out: &mut [u8], at: usize) -> usize
-    ensures { λ r. ⌜ Counts r (now (out .exit)) ⌝ }
-    ensures { λ r. ⌜ take r (now (out .exit)) ≡ after (length (now (out .entry))) (take at (now (out .entry))) (answerText (refusedAt number place 0)) ⌝ }
+    ensures { λ r. ⌜ Puts (answerText (refused (placed number place 0))) (now (out .entry)) at r (now (out .exit)) ⌝ }
 {
     let numbered = put_number(number, out, at);
     let placed = put(b" at ", out, numbered);
@@ -32,8 +27,7 @@ fn put_place(number: u8, place: usize, out: &mut [u8], at: usize) -> usize
 
 // Refusals 6 and 7 end with their place, the others after their number.
 fn put_refusal(why: Refusal, out: &mut [u8], at: usize) -> usize
-    ensures { λ r. ⌜ Counts r (now (out .exit)) ⌝ }
-    ensures { λ r. ⌜ take r (now (out .exit)) ≡ after (length (now (out .entry))) (take at (now (out .entry))) (answerText (says why)) ⌝ }
+    ensures { λ r. ⌜ Puts (answerText (refused (says why))) (now (out .entry)) at r (now (out .exit)) ⌝ }
 {
     let number = why.number();
     match why {
@@ -44,8 +38,7 @@ fn put_refusal(why: Refusal, out: &mut [u8], at: usize) -> usize
 }
 
 fn put_cost(answer: CostAnswer, out: &mut [u8], at: usize) -> usize
-    ensures { λ r. ⌜ Counts r (now (out .exit)) ⌝ }
-    ensures { λ r. ⌜ take r (now (out .exit)) ≡ after (length (now (out .entry))) (take at (now (out .entry))) (answerText (costSays answer)) ⌝ }
+    ensures { λ r. ⌜ Puts (answerText (costSays answer)) (now (out .entry)) at r (now (out .exit)) ⌝ }
 {
     match answer {
         CostAnswer::Bits(bits) => {
@@ -57,8 +50,7 @@ fn put_cost(answer: CostAnswer, out: &mut [u8], at: usize) -> usize
 }
 
 fn put_saying(bytes: &[u8], out: &mut [u8], at: usize) -> usize
-    ensures { λ r. ⌜ Counts r (now (out .exit)) ⌝ }
-    ensures { λ r. ⌜ take r (now (out .exit)) ≡ after (length (now (out .entry))) (take at (now (out .entry))) (sayingText (lineOf (now (bytes .entry)))) ⌝ }
+    ensures { λ r. ⌜ Puts (sayingText (lineOf (now (bytes .entry)))) (now (out .entry)) at r (now (out .exit)) ⌝ }
 {
     let answer = tns_cost::record_cost(bytes);
     match answer {
@@ -69,8 +61,7 @@ fn put_saying(bytes: &[u8], out: &mut [u8], at: usize) -> usize
 
 // A frame's line: what the record in the bytes costs, or why it is refused, or that they are too few.
 pub fn put_line(frame: u64, bytes: &[u8], out: &mut [u8], at: usize) -> usize
-    ensures { λ r. ⌜ Counts r (now (out .exit)) ⌝ }
-    ensures { λ r. ⌜ take r (now (out .exit)) ≡ after (length (now (out .entry))) (take at (now (out .entry))) (lineText frame (lineOf (now (bytes .entry)))) ⌝ }
+    ensures { λ r. ⌜ Puts (lineText frame (lineOf (now (bytes .entry)))) (now (out .entry)) at r (now (out .exit)) ⌝ }
 {
     let named = put(b"frame ", out, at);
     let numbered = put_decimal(frame, out, named);

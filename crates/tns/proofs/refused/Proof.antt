@@ -1,20 +1,16 @@
 -- The refusal's own numbers, and no bits.
-use mathlib.Core.Path.{_≡_, refl}
+use mathlib.Core.Path.{_≡_}
 use Prim.Native.Nat.{ℕ}
 use borrow.Author.Needs.{needs}
-use Rattle.tns_refusals.specs.Refusals.{numberIn, placeIn, foundIn, bitsIn, noBits, says}
+use Rattle.tns_refusals.specs.Refusals.{refused, numberOf, placeOf, foundOf, noBits, says}
 use Rattle.tns_refusals.specs.declared.Refusal.{Refusal}
-use Rattle.tns_refusals.proofs.Sides.{by-refusal}
-use Rattle.tns.specs.Answers.{told}
+use Rattle.tns.specs.Answers.{answerFor}
 use Rattle.tns.proofs.refused.Statement.{statement}
 use Rattle.tns.proofs.refused.Tie as tie
 
-no-bits : (why : Refusal) → 0 ≡ bitsIn noBits (says why)
-no-bits why = by-refusal (λ v. 0 ≡ bitsIn noBits v) (λ n. refl) (λ n p f. refl) why
-
-own-numbers : (why : Refusal) (n p f : ℕ) → n ≡ numberIn (says {A = Unit {0}} why) → p ≡ placeIn (says {A = Unit {0}} why) → f ≡ foundIn (says {A = Unit {0}} why)
-    → record { refusal = n; place = p; found = f; bits = 0 } ≡ told noBits (says why)
-own-numbers why n p f en ep ef = cc (no-bits why)
+own-numbers : (why : Refusal) (n p f : ℕ) → n ≡ numberOf (says why) → p ≡ placeOf (says why) → f ≡ foundOf (says why)
+    → record { refusal = n; place = p; found = f; bits = 0 } ≡ answerFor noBits (refused (says why))
+own-numbers why n p f en ep ef = cc
 
 returns : tie.Need-returns
 returns c =

@@ -3,13 +3,12 @@ use mathlib.Core.Path.{_≡_, sym, _∙_, ap, subst}
 use mathlib.Core.List.{List}
 use Prim.Native.Nat.{ℕ, _≤_}
 use borrow.Author.Needs.{needs}
-use Rattle.tns_refusals.specs.Refusals.{Verdict, accepted, placeIn, noBits, itsBits, says}
+use Rattle.tns_refusals.specs.Refusals.{Verdict, accepted, refused, placeOf, ofFault, itsBits, says}
 use Rattle.tns_cost.specs.Cost.{costOf, costSays}
 use Rattle.tns_cost.proofs.Costs.{cost-at-most}
-use Rattle.tns.specs.Answers.{told}
+use Rattle.tns.specs.Answers.{answerFor}
 use Rattle.tns.specs.declared.Answer.{Answer}
 use Rattle.tns.proofs.Small.{cost-place}
-use Rattle.tns.proofs.Told.{refused-told}
 use Rattle.tns.proofs.tns_cost.Statement.{statement}
 use Rattle.tns.proofs.tns_cost.Tie as tie
 
@@ -21,34 +20,31 @@ costs c = sym (ap costSays (c .answer .given .1)) ∙ c .before .before .cost .e
 
 said : (c : tie.After-answer2) →
     let g = c .before .before .before .before .before .args in
-    says (c .answer2 .given .0 .0) ≡ costOf (g .weighting) (g .filters) (g .orders .now) (g .indices .now)
+    refused (says (c .answer2 .given .0 .0)) ≡ costOf (g .weighting) (g .filters) (g .orders .now) (g .indices .now)
 said c = sym (ap costSays (c .answer2 .given .1)) ∙ c .before .before .cost .ensures .0
 
 refused-requires : tie.Need-refused-requires
 refused-requires c κs =
     let g = c .before .before .before .before .before .before .args in
-    let why = c .before .answer2 .given .0 .0 in
-    subst (λ (p : ℕ). p ≤ 15) (sym (ap (λ (v : Verdict ℕ). placeIn v) (said (c .before))) ∙ ap (λ (a : Answer). a .place) (refused-told itsBits noBits why))
-    (cost-place (g .weighting) (g .filters) (g .orders .now) (g .indices .now))
+    subst (λ (v : Verdict ℕ). ofFault placeOf v ≤ 15) (sym (said (c .before))) (cost-place (g .weighting) (g .filters) (g .orders .now) (g .indices .now))
 
 -- an answer that tells what the definition says has the definition's bits
-few : (answer : Answer) (weighting filters : ℕ) (orders indices : List ℕ) → answer ≡ told itsBits (costOf weighting filters orders indices)
-    → (answer ≡ told itsBits (costOf weighting filters orders indices)) × (answer .bits ≤ 168)
+few : (answer : Answer) (weighting filters : ℕ) (orders indices : List ℕ) → answer ≡ answerFor itsBits (costOf weighting filters orders indices)
+    → (answer ≡ answerFor itsBits (costOf weighting filters orders indices)) × (answer .bits ≤ 168)
 few answer weighting filters orders indices e = (e, subst (λ (a : Answer). a .bits ≤ 168) (sym e) (cost-at-most weighting filters orders indices))
 
 returns : tie.Need-returns
 returns c =
     let answered = c .before .before in
     let g = answered .before .before .before .before .before .args in
-    few (c .accepted .result) (g .weighting) (g .filters) (g .orders .now) (g .indices .now) (c .accepted .ensures ∙ ap (told itsBits) (costs answered))
+    few (c .accepted .result) (g .weighting) (g .filters) (g .orders .now) (g .indices .now) (c .accepted .ensures ∙ ap (answerFor itsBits) (costs answered))
 
 returns-2 : tie.Need-returns-2
 returns-2 c =
     let answered = c .before .before in
     let g = answered .before .before .before .before .before .args in
-    let why = answered .answer2 .given .0 .0 in
     few (c .refused .result) (g .weighting) (g .filters) (g .orders .now) (g .indices .now)
-    (c .refused .ensures ∙ refused-told noBits itsBits why ∙ ap (told itsBits) (said answered))
+    (c .refused .ensures ∙ ap (answerFor itsBits) (said answered))
 
 pub tns-cost-spec : {M : Type 1} → statement M
 tns-cost-spec =

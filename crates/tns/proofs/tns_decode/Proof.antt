@@ -3,9 +3,9 @@ use mathlib.Core.Path.{_≡_, sym, _∙_, ap, subst}
 use Prim.Native.Nat.{_≤_}
 use borrow.Author.Needs.{needs}
 use lib.ListN.{length}
-use Rattle.tns_refusals.specs.Refusals.{Verdict, noFault, placeIn, noBits, says}
+use Rattle.tns_refusals.specs.Refusals.{Verdict, refused, noFault, placeOf, ofFault, noBits, says}
 use Rattle.tns_decode.specs.Decoder.{decodeChecks, decodeSays}
-use Rattle.tns.specs.Answers.{told}
+use Rattle.tns.specs.Answers.{answerFor}
 use Rattle.tns.proofs.Small.{decode-place}
 use Rattle.tns.proofs.tns_decode.Statement.{statement}
 use Rattle.tns.proofs.tns_decode.Tie as tie
@@ -13,7 +13,7 @@ use Rattle.tns.proofs.tns_decode.Tie as tie
 -- what the door said, of a refusal and of a decoded spectrum
 said : (c : tie.After-answer) →
     let g = c .before .before .before .before .before .before .before .before .before .args in
-    says (c .answer .given .0 .0) ≡ decodeChecks (g .duration) (g .bandwidth) (g .filters) (g .orders .now) (g .indices .now) (length (g .lines .now))
+    refused (says (c .answer .given .0 .0)) ≡ decodeChecks (g .duration) (g .bandwidth) (g .filters) (g .orders .now) (g .indices .now) (length (g .lines .now))
 said c = sym (ap decodeSays (c .answer .given .1)) ∙ c .before .before .before .before .decode .ensures .0
 
 decoded : (c : tie.After-enum-told) →
@@ -24,16 +24,16 @@ decoded c = sym (ap decodeSays (c .enum-told .given .1)) ∙ c .before .before .
 refused-requires : tie.Need-refused-requires
 refused-requires c κs =
     let g = c .before .before .before .before .before .before .before .before .before .before .args in
-    subst (λ (v : Verdict (Unit {0})). placeIn v ≤ 15) (sym (said (c .before)))
+    subst (λ (v : Verdict (Unit {0})). ofFault placeOf v ≤ 15) (sym (said (c .before)))
     (decode-place (g .duration) (g .bandwidth) (g .filters) (g .orders .now) (g .indices .now) (length (g .lines .now)))
 
 returns : tie.Need-returns
 returns c =
-    (c .accepted .ensures ∙ ap (told noBits) (decoded (c .before)), c .before .before .before .before .before .decode .ensures .1)
+    (c .accepted .ensures ∙ ap (answerFor noBits) (decoded (c .before)), c .before .before .before .before .before .decode .ensures .1)
 
 returns-2 : tie.Need-returns-2
 returns-2 c =
-    (c .refused .ensures ∙ ap (told noBits) (said (c .before .before)), c .before .before .before .before .before .before .decode .ensures .1)
+    (c .refused .ensures ∙ ap (answerFor noBits) (said (c .before .before)), c .before .before .before .before .before .before .decode .ensures .1)
 
 pub tns-decode-spec : {M : Type 1} → statement M
 tns-decode-spec =

@@ -2,7 +2,7 @@
 use mathlib.Core.Path.{_≡_, sym, _∙_, ap}
 use borrow.Author.Needs.{needs}
 use lib.ListN.{length}
-use Rattle.tns_refusals.specs.Refusals.{accepted, noFault, sideChecks, sideSays}
+use Rattle.tns_refusals.specs.Refusals.{accepted, noFault, says, sideChecks, sideSays}
 use Rattle.tns_refusals.proofs.Sides.{sound-side}
 use Rattle.tns_frames.specs.Frames.{frameOf, frameSays}
 use Rattle.tns_rows.specs.declared.row.Row.{Row}
@@ -24,8 +24,8 @@ side-passed : (c : tie.After-enum-told) →
     noFault ≡ sideChecks (g .filters) (g .orders .now) (g .indices .now) noFault
 side-passed c = sym (ap sideSays (c .enum-told .given .1)) ∙ c .before .before .check-side .ensures
 
-acting-decoded-requires : tie.Need-acting-decoded-requires
-acting-decoded-requires c κs =
+row-decoded-requires : tie.Need-row-decoded-requires
+row-decoded-requires c κs =
     let told = c .before in
     let frame = told .before .before .before .before in
     let g = frame .before .before .before .before .before .before .args in (
@@ -36,7 +36,7 @@ acting-decoded-requires c κs =
 returns : tie.Need-returns
 returns c =
     let g = c .before .before .before .before .before .before .before .args in
-    let why = c .before .frame .given .0 .0 in
+    let why = says (c .before .frame .given .0 .0) in
     let e = frame-refused (g .duration) (g .bandwidth) (g .filters) (g .orders .now) (g .indices .now) (length (g .lines .now)) why
     (sym (ap frameSays (c .before .frame .given .1)) ∙ c .before .before .before .check-frame .ensures)
     in
@@ -46,7 +46,7 @@ returns-2 : tie.Need-returns-2
 returns-2 c =
     let frame = c .before .before .before .before .before in
     let g = frame .before .before .before .before .before .before .args in
-    let why = c .before .side .given .0 .0 in
+    let why = says (c .before .side .given .0 .0) in
     let rest = frame-passed (g .duration) (g .bandwidth) (g .filters) (g .orders .now) (g .indices .now) (length (g .lines .now)) (frame .frame2 .given .0 .0) (passed frame) in
     let e = sym (ap sideSays (c .before .side .given .1)) ∙ c .before .before .before .check-side .ensures ∙ sym (rest .1) in
     (e, refused-spectrum (g .duration) (g .bandwidth) (g .filters) (g .orders .now) (g .indices .now) (g .lines .now) why e)
@@ -59,7 +59,7 @@ returns-3 c =
     let rest = frame-passed (g .duration) (g .bandwidth) (g .filters) (g .orders .now) (g .indices .now) (length (g .lines .now)) (frame .frame2 .given .0 .0) (passed frame) in
     let e = side-passed told ∙ sym (rest .1) in (
       e,
-      c .before .before .acting-decoded .ensures
+      c .before .before .row-decoded .ensures
           ∙ ap (λ (row : Row). rowDecoded row (g .filters) (g .orders .now) (g .indices .now) (g .lines .now)) (rest .0)
           ∙ accepted-spectrum (g .duration) (g .bandwidth) (g .filters) (g .orders .now) (g .indices .now) (g .lines .now) e,
     )
@@ -74,7 +74,7 @@ decode-spec =
     (λ c κs. search needs)
     (λ c. search needs)
     (λ c. search needs)
-    acting-decoded-requires
+    row-decoded-requires
     returns
     returns-2
     (λ c. search needs)

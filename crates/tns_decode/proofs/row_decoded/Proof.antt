@@ -1,92 +1,29 @@
--- None, one or two filters, the second going on from the first one's states and lines.
-use mathlib.Core.Path.{_≡_, sym, _∙_, ap, subst}
-use mathlib.Core.List.{List, map}
-use Prim.Native.Nat.{ℕ}
-use native.Mathlib.Omega.{arith}
+-- Filters of order 0 change nothing, and any others are left to `filters_decoded`.
 use borrow.Author.Needs.{needs}
-use lib.Ieee.{Float}
-use lib.ListN.{length, getD, take, drop, length-drop}
-use lib.Seq.{length-take-le, getD-drop}
-use Rattle.tns_refusals.proofs.Sides.{none-over}
-use Rattle.tns_rows.specs.Bands.{within}
-use Rattle.tns_rows.proofs.Bands.{Fits}
-use Rattle.tns_lattices.specs.DecoderLattice.{linesDecoded}
-use Rattle.tns_decode.specs.Decoder.{decoderCoefficient}
-use Rattle.tns_decode.proofs.Filters.{none-decoded, one-decoded, two-decoded, firstDone, firstStates}
+use Rattle.tns_decode.proofs.Filters.{one-idle, all-idle}
 use Rattle.tns_decode.proofs.row_decoded.Statement.{statement}
 use Rattle.tns_decode.proofs.row_decoded.Tie as tie
 
--- the next eight of sixteen
-eight : (is : List ℕ) → length is ≡ 16 → length (take 8 (drop 8 is)) ≡ 8
-eight is h = length-take-le 8 (drop 8 is) (omega (arith, length-drop 8 is))
-
 returns : tie.Need-returns
 returns c =
-    let g = c .before .before .before .before .args in
-    rw (c .if1 .taken) (none-decoded (g .row) (g .orders .now) (g .indices .now) (g .lines .now))
-
-filter-decoded-requires : tie.Need-filter-decoded-requires
-filter-decoded-requires c κs =
-    let start = c .before .before .before .before .before .before .before in
-    let side = start .pre .1 in
-    let g = start .args in (
-      start .pre .0 .first-fits,
-      (
-        none-over 8 0 (g .orders .now) (side .orders-at-most-8) 0,
-        length-take-le 8 (g .indices .now) (omega (arith, side .sixteen-indices)),
-      ),
-    )
+    let start = c .before .before .before .before .before .before in
+    let g = start .args in
+    rw (c .if2 .taken) (one-idle (g .row) (g .orders .now) (g .indices .now) (g .lines .now) (start .pre .0) (c .before .if1 .taken))
 
 returns-2 : tie.Need-returns-2
 returns-2 c =
-    let start = c .before .before .before .before .before .before .before .before .before .before .before in
+    let start = c .before .before .before .before .before .before .before .before in
     let g = start .args in
-    c .before .before .before .filter-decoded .ensures .1 ∙ rw (c .if2 .taken) (one-decoded (g .row) (g .orders .now) (g .indices .now) (g .lines .now))
-
-filter-decoded-requires-2 : tie.Need-filter-decoded-requires-2
-filter-decoded-requires-2 c κs =
-    let first = c .before .before .before .before .before .before in
-    let start = first .before .before .before .before .before .before .before .before in
-    let side = start .pre .1 in
-    let g = start .args in (
-      subst (λ (n : ℕ). Fits (g .row .second) n) (sym (first .filter-decoded .kept .1 .1 .1 .1 .0)) (start .pre .0 .second-fits),
-      (
-        none-over 8 0 (g .orders .now) (side .orders-at-most-8) 1,
-        eight (g .indices .now) (side .sixteen-indices),
-      ),
-    )
-
-returns-3 : tie.Need-returns-3
-returns-3 c =
-    let second = c .before .before in
-    let tests = second .before .before .before .before in
-    let first = tests .before .before .before in
-    let start = first .before .before .before .before .before .before .before .before in
-    let g = start .args in
-    let both : g .filters ≡ 2 = omega (arith, start .pre .1 .count-at-most-2, tests .if2 .left, first .before .before .before .before .if1 .left) in
-    let q = map decoderCoefficient (take 8 (drop 8 (g .indices .now))) in
-    second .filter-decoded2 .ensures .1
-    ∙ ap (λ (s : List Float). within (g .row .second) (linesDecoded q (getD (g .orders .now) 1 0) s) (first .filter-decoded .last .1 .1 .1 .1 .0)) (first .filter-decoded .ensures .0)
-    ∙ ap (λ (l : List Float). within (g .row .second) (linesDecoded q (getD (g .orders .now) 1 0) (firstStates (g .row) (g .orders .now) (g .indices .now) (g .lines .now))) l) (first .filter-decoded .ensures .1)
-    ∙ ap (λ (o : ℕ). within (g .row .second) (linesDecoded q o (firstStates (g .row) (g .orders .now) (g .indices .now) (g .lines .now))) (firstDone (g .row) (g .orders .now) (g .indices .now) (g .lines .now))) (sym (getD-drop 1 (g .orders .now) 0 0))
-    ∙ rw both (two-decoded (g .row) (g .orders .now) (g .indices .now) (g .lines .now))
+    all-idle (g .row) (g .orders .now) (g .indices .now) (g .lines .now) (start .pre .0) (c .before .before .before .if1 .taken) (c .if3 .taken) (g .filters) (start .pre .1 .count-at-most-2)
 
 pub row-decoded-spec : {M : Type 1} → statement M
 row-decoded-spec =
     tie.close
     (tie.spec
+    (λ c. search needs)
     returns
     (λ c. search needs)
-    (λ c. search needs)
-    (λ c. search needs)
-    (λ c. search needs)
-    filter-decoded-requires
-    (λ c. search needs)
     returns-2
+    (λ c κs. search needs)
     (λ c. search needs)
-    (λ c. search needs)
-    (λ c. search needs)
-    (λ c. search needs)
-    filter-decoded-requires-2
-    (λ c. search needs)
-    returns-3)
+    (λ c. search needs))

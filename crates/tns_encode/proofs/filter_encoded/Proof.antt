@@ -1,42 +1,25 @@
 -- The part that was lent comes back filtered, and the rest of the spectrum as it was.
-use mathlib.Core.Path.{_≡_, _∙_, ap}
-use mathlib.Core.List.{List, _++_}
-use Prim.Native.Nat.{ℕ, _-_, _≤_, min}
+use mathlib.Core.Path.{refl}
 use borrow.Author.Needs.{needs}
-use lib.Ieee.{Float}
-use lib.ListN.{take, drop}
-use Rattle.tns_rows.specs.Bands.{inside}
-use Rattle.tns_rows.proofs.Bands.{band-back}
-use Rattle.tns_lattices.specs.EncoderLattice.{linesEncoded, statesAfter}
-use Rattle.tns_lattices.proofs.Orders.{within-8}
-use Rattle.tns_lattices.proofs.EncoderIdle.{order-0, order-0-within}
+use Rattle.tns_lattices.specs.EncoderLattice.{lineEncoded}
+use Rattle.tns_lattices.proofs.Idle.{encoder-idle}
+use Rattle.tns_filters.specs.Filters.{filterWith}
+use Rattle.tns_filters.proofs.Filters.{idle-filter, lent-back}
 use Rattle.tns_encode.proofs.filter_encoded.Statement.{statement}
 use Rattle.tns_encode.proofs.filter_encoded.Tie as tie
-
--- the lattice's answer, told at the order itself
-as-defined : (order : ℕ) → order ≤ 8 → (q s xs r ys : List Float)
-    → (r ≡ statesAfter q (min order 8) s xs) × (ys ≡ linesEncoded q (min order 8) s xs) → (r ≡ statesAfter q order s xs) × (ys ≡ linesEncoded q order s xs)
-as-defined order h q s xs r ys both = rw (within-8 order h) at both
 
 returns : tie.Need-returns
 returns c =
     let start = c .before .before in
     let g = start .args in
-    let xs = g .lines .now in
-    rw (c .if1 .taken) (order-0 (g .q) (g .states) (inside (g .band) xs) .0, order-0-within (g .band) (g .q) (g .states) xs (start .pre .0 .order))
+    idle-filter lineEncoded encoder-idle (g .band) (filterWith (g .q) (g .order)) (c .if1 .taken) (g .states) (g .lines .now) (start .pre .0 .order)
 
 returns-2 : tie.Need-returns-2
 returns-2 c =
-    let called = c .before .before .band-encoded in
     let start = c .before .before .before .before .before .before in
     let g = start .args in
-    let b = g .band in
-    let xs = g .lines .now in
-    let p = as-defined (g .order) (start .pre .1) (g .q) (g .states) (inside b xs) (called .result) _ (called .ensures) in (
-      p .0,
-      ap (λ (l : List Float). take (b .start) xs ++ (l ++ drop (b .stop - b .start) (drop (b .start) xs))) (p .1)
-          ∙ band-back b xs (linesEncoded (g .q) (g .order) (g .states) (inside b xs)) (start .pre .0 .order),
-    )
+    lent-back lineEncoded (g .band) (filterWith (g .q) (g .order)) (start .pre .1) (g .q) (g .states) (g .lines .now) _ _ refl (start .pre .0 .order)
+    (c .before .before .band-encoded .ensures)
 
 pub filter-encoded-spec : {M : Type 1} → statement M
 filter-encoded-spec =

@@ -3,7 +3,7 @@ use mathlib.Core.Path.{_≡_, refl, _∙_}
 use Prim.Native.Nat.{ℕ, zero, suc, _<_, _≤_}
 use borrow.Author.Needs.{needs}
 use borrow.Author.Tests.{lt-ltb, le-ltb}
-use Rattle.tns_refusals.specs.Refusals.{accepted, refused}
+use Rattle.tns_refusals.specs.Refusals.{numbered, accepted, refused}
 use Rattle.tns_rows.specs.Durations.{durationOf}
 use Rattle.tns_rows.specs.declared.duration.Duration.{Duration}
 use Rattle.tns_rows.specs.declared.duration.Duration.the-variants.{Ten, SevenPointFive}
@@ -13,12 +13,12 @@ use Rattle.tns_frames.proofs.check_frame.Statement.{statement}
 use Rattle.tns_frames.proofs.check_frame.Tie as tie
 
 module _ (duration bandwidth lines : ℕ) where
-  duration-fails : 1 < duration → refused 1 ≡ frameOf duration bandwidth lines
+  duration-fails : 1 < duration → refused (numbered 1) ≡ frameOf duration bandwidth lines
   unfolding frameOf frameChecks
   duration-fails h = simp (lt-ltb _ _ h)
 
   module _ (known : duration ≤ 1) where
-    bandwidth-fails : 4 < bandwidth → refused 2 ≡ frameOf duration bandwidth lines
+    bandwidth-fails : 4 < bandwidth → refused (numbered 2) ≡ frameOf duration bandwidth lines
     unfolding frameOf frameChecks
     bandwidth-fails h = simp (le-ltb _ _ known, lt-ltb _ _ h)
 

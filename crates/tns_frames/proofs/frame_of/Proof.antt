@@ -4,8 +4,8 @@ use Prim.Native.Nat.{ℕ, _<_, _≤_}
 use native.Mathlib.Omega.{arith}
 use borrow.Author.Needs.{needs}
 use borrow.Author.Tests.{lt-ltb, le-ltb}
-use Rattle.tns_refusals.specs.Refusals.{accepted, refused}
-use Rattle.tns_rows.specs.Durations.{kept}
+use Rattle.tns_refusals.specs.Refusals.{numbered, accepted, refused}
+use Rattle.tns_rows.specs.Durations.{numbersOf}
 use Rattle.tns_rows.specs.declared.duration.Duration.{Duration}
 use Rattle.tns_frames.specs.Frames.{lengthCheck}
 use Rattle.tns_rows.specs.Bands.{rowOf, lastStop}
@@ -13,14 +13,14 @@ use Rattle.tns_frames.proofs.frame_of.Statement.{statement}
 use Rattle.tns_frames.proofs.frame_of.Tie as tie
 
 module _ (duration : Duration) (bandwidth lines : ℕ) where
-  too-short : lines < lastStop (rowOf duration bandwidth) → refused 3 ≡ lengthCheck duration bandwidth lines (accepted (rowOf duration bandwidth))
+  too-short : lines < lastStop (rowOf duration bandwidth) → refused (numbered 3) ≡ lengthCheck duration bandwidth lines (accepted (rowOf duration bandwidth))
   too-short h = simp (lt-ltb _ _ h)
 
   module _ (enough : lastStop (rowOf duration bandwidth) ≤ lines) where
-    too-long : kept duration .longest < lines → refused 3 ≡ lengthCheck duration bandwidth lines (accepted (rowOf duration bandwidth))
+    too-long : numbersOf duration .longest < lines → refused (numbered 3) ≡ lengthCheck duration bandwidth lines (accepted (rowOf duration bandwidth))
     too-long h = simp (le-ltb _ _ enough, lt-ltb _ _ h)
 
-    fine : lines ≤ kept duration .longest → accepted (rowOf duration bandwidth) ≡ lengthCheck duration bandwidth lines (accepted (rowOf duration bandwidth))
+    fine : lines ≤ numbersOf duration .longest → accepted (rowOf duration bandwidth) ≡ lengthCheck duration bandwidth lines (accepted (rowOf duration bandwidth))
     fine h = simp (le-ltb _ _ enough, le-ltb _ _ h)
 
 stop-is : (c : tie.After-last-stop) →

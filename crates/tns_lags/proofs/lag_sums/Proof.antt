@@ -7,7 +7,7 @@ use borrow.Author.Needs.{needs}
 use lib.Ieee.{Float}
 use lib.ListN.{length}
 use Rattle.tns_lists.specs.Places.{tab}
-use Rattle.tns_lags.specs.Steps.{addedCell, sumsTo}
+use Rattle.tns_lags.specs.PartialSums.{addedCell, sumsTo}
 use Rattle.tns_lags.proofs.Adding.{sums-more, sums-all}
 use Rattle.tns_lags.proofs.lag_sums.Statement.{statement}
 use Rattle.tns_lags.proofs.lag_sums.Tie as tie

@@ -7,7 +7,7 @@ use lib.Ieee.{Float}
 use lib.ListN.{length, length-set}
 use Rattle.tns_rounding.specs.Floats.{_⊕_, _⊗_}
 use Rattle.tns_lists.specs.Places.{at}
-use Rattle.tns_lags.specs.Steps.{addedCell}
+use Rattle.tns_lags.specs.PartialSums.{addedCell}
 use Rattle.tns_lists.proofs.Tab.{is-tab, stored-more}
 use Rattle.tns_lags.proofs.Adding.{added-none, added-here, not-added, added-elsewhere}
 use Rattle.tns_lags.proofs.line_added.Statement.{statement}

@@ -7,7 +7,7 @@ use lib.ListN.{length, length-set}
 use Rattle.tns_rounding.specs.Floats.{_⊗_}
 use Rattle.tns_lists.specs.Places.{at}
 use Rattle.tns_lags.specs.Autocorrelation.{lagWindow}
-use Rattle.tns_lags.specs.Steps.{plainCell, lagCell}
+use Rattle.tns_lags.specs.PartialSums.{plainCell, lagCell}
 use Rattle.tns_lists.proofs.Tab.{is-tab, filled-more}
 use Rattle.tns_lags.proofs.normalized.Statement.{statement}
 use Rattle.tns_lags.proofs.normalized.Tie as tie

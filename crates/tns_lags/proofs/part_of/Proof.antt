@@ -3,8 +3,8 @@ use mathlib.Core.Path.{_≡_, _∙_, ap}
 use Prim.Native.Nat.{ℕ, min}
 use borrow.Author.Needs.{needs}
 use lib.ListN.{length}
-use Rattle.tns_lags.specs.Autocorrelation.{part}
-use Rattle.tns_lags.proofs.Parts.{part-cut}
+use Rattle.tns_lists.specs.Places.{part}
+use Rattle.tns_lists.proofs.Parts.{part-cut}
 use Rattle.tns_lags.proofs.part_of.Statement.{statement}
 use Rattle.tns_lags.proofs.part_of.Tie as tie
 

@@ -6,7 +6,7 @@ use native.Mathlib.Omega.{arith}
 use lib.Ieee.{Float}
 use lib.ListN.{length}
 use Rattle.tns_lists.specs.Places.{tab}
-use Rattle.tns_lags.specs.Steps.{addedCell, sumsTo}
+use Rattle.tns_lags.specs.PartialSums.{addedCell, sumsTo}
 use Rattle.tns_lags.proofs.Adding.{sums-none, sums-more}
 use Rattle.tns_lags.proofs.whole_sums.Statement.{statement}
 use Rattle.tns_lags.proofs.whole_sums.Tie as tie

@@ -6,24 +6,24 @@ use native.Mathlib.Omega.{arith}
 use borrow.Author.Needs.{needs}
 use borrow.Author.Tests.{lt-ltb, le-ltb, eq-eqb, ne-eqb}
 use lib.ListN.{length}
-use Rattle.tns_refusals.specs.Refusals.{Verdict, noFault, refused, refusedAt, sideChecks, lowestOver, checkAt}
+use Rattle.tns_refusals.specs.Refusals.{numbered, placed, Verdict, noFault, refused, sideChecks, lowestOver, checkAt}
 use Rattle.tns_refusals.specs.declared.Over.{Over}
 use Rattle.tns_refusals.specs.declared.Over.the-variants.{Nowhere, At}
 use Rattle.tns_refusals.proofs.check_side.Statement.{statement}
 use Rattle.tns_refusals.proofs.check_side.Tie as tie
 
 module _ {A : Type 0} (filters : ℕ) (orders indices : List ℕ) (next : Verdict A) where
-  orders-fail : (length orders ≡ 2 → ⊥) → refused 4 ≡ sideChecks filters orders indices next
+  orders-fail : (length orders ≡ 2 → ⊥) → refused (numbered 4) ≡ sideChecks filters orders indices next
   unfolding sideChecks
   orders-fail h = simp (ne-eqb _ _ h)
 
   module _ (two : length orders ≡ 2) where
-    indices-fail : (length indices ≡ 16 → ⊥) → refused 4 ≡ sideChecks filters orders indices next
+    indices-fail : (length indices ≡ 16 → ⊥) → refused (numbered 4) ≡ sideChecks filters orders indices next
     unfolding sideChecks
     indices-fail h = simp (eq-eqb _ _ two, ne-eqb _ _ h)
 
     module _ (sixteen : length indices ≡ 16) where
-      count-fails : 2 < filters → refused 5 ≡ sideChecks filters orders indices next
+      count-fails : 2 < filters → refused (numbered 5) ≡ sideChecks filters orders indices next
       unfolding sideChecks
       count-fails h = simp (eq-eqb _ _ two, eq-eqb _ _ sixteen, lt-ltb _ _ h)
 
@@ -33,14 +33,14 @@ module _ {A : Type 0} (filters : ℕ) (orders indices : List ℕ) (next : Verdic
         unfolding sideChecks
         left = simp (eq-eqb _ _ two, eq-eqb _ _ sixteen, le-ltb _ _ few)
 
-        order-fails : (place found : ℕ) → lowestOver 8 0 orders ≡ At place found → refusedAt 6 place found ≡ sideChecks filters orders indices next
+        order-fails : (place found : ℕ) → lowestOver 8 0 orders ≡ At place found → refused (placed 6 place found) ≡ sideChecks filters orders indices next
         order-fails place found e = sym (left ∙ ap (λ (o : Over). checkAt 6 o (checkAt 7 (lowestOver 16 0 indices) next)) e)
 
         module _ (orders-fine : lowestOver 8 0 orders ≡ Nowhere) where
           index-left : sideChecks filters orders indices next ≡ checkAt 7 (lowestOver 16 0 indices) next
           index-left = left ∙ ap (λ (o : Over). checkAt 6 o (checkAt 7 (lowestOver 16 0 indices) next)) orders-fine
 
-          index-fails : (place found : ℕ) → lowestOver 16 0 indices ≡ At place found → refusedAt 7 place found ≡ sideChecks filters orders indices next
+          index-fails : (place found : ℕ) → lowestOver 16 0 indices ≡ At place found → refused (placed 7 place found) ≡ sideChecks filters orders indices next
           index-fails place found e = sym (index-left ∙ ap (λ (o : Over). checkAt 7 o next) e)
 
           all-fine : lowestOver 16 0 indices ≡ Nowhere → next ≡ sideChecks filters orders indices next

@@ -1,8 +1,7 @@
 -- A word and a number, the one after the other.
 use native.Mathlib.Omega.{arith}
-use lib.ListN.{length, take}
 use Rattle.tns_program.specs.Text.{ascii, decimal}
-use Rattle.tns_program.proofs.Texts.{put-on}
+use Rattle.tns_program.proofs.Texts.{puts-on}
 use borrow.Author.Needs.{needs}
 use Rattle.tns_wording.proofs.put_number.Statement.{statement}
 use Rattle.tns_wording.proofs.put_number.Tie as tie
@@ -11,11 +10,8 @@ returns : tie.Need-returns
 returns c =
     let number = c .before .before in
     let word = number .before .before .before .before in
-    let g = word .before .before .before .before .args in (
-      number .put-decimal .ensures .0,
-      put-on (length (g .out .now)) _ (take (g .at) (g .out .now)) (ascii "refused ") (decimal (g .number)) _ _ (word .put .ensures .1) (number .put-decimal .ensures .1)
-          (omega arith),
-    )
+    let g = word .before .before .before .before .args in
+    puts-on (ascii "refused ") (decimal (g .number)) (g .out .now) _ _ (g .at) _ _ (word .put .ensures) (number .put-decimal .ensures) (omega arith)
 
 pub put-number-spec : {M : Type 1} → statement M
 put-number-spec =

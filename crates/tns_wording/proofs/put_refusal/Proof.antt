@@ -1,8 +1,7 @@
 -- Each refusal with its place, or after its number.
-use mathlib.Core.Path.{refl, ap, _∙_}
-use lib.ListN.{length, take}
+use mathlib.Core.Path.{refl}
 use Rattle.tns_refusals.specs.declared.Refusal.the-variants.{Order, Index}
-use Rattle.tns_program.specs.Text.{after}
+use Rattle.tns_program.proofs.Texts.{puts-same}
 use Rattle.tns_wording.proofs.Sayings.{with-place, without-place}
 use borrow.Author.Needs.{needs}
 use Rattle.tns_wording.proofs.put_refusal.Statement.{statement}
@@ -14,11 +13,10 @@ returns c =
     let matched = placed .before .before .before in
     let called = matched .before .before in
     let g = called .before .before .args in
-    let order = matched .why .given .0 in (
-      placed .put-place .ensures .0,
-      placed .put-place .ensures .1
-          ∙ ap (after (length (g .out .now)) (take (g .at) (g .out .now))) (with-place (called .number .result) (order .0) (order .1 .0) (g .why) (Order (order .0) (order .1 .0)) (matched .why .given .1) refl (called .number .ensures)),
-    )
+    let order = matched .why .given .0 in
+    puts-same
+    (with-place (called .number .result) (order .0) (order .1 .0) (g .why) (Order (order .0) (order .1 .0)) (matched .why .given .1) refl (called .number .ensures))
+    (placed .put-place .ensures)
 
 returns-2 : tie.Need-returns-2
 returns-2 c =
@@ -26,22 +24,19 @@ returns-2 c =
     let matched = placed .before .before .before in
     let called = matched .before .before in
     let g = called .before .before .args in
-    let index = matched .why2 .given .0 in (
-      placed .put-place2 .ensures .0,
-      placed .put-place2 .ensures .1
-          ∙ ap (after (length (g .out .now)) (take (g .at) (g .out .now))) (with-place (called .number .result) (index .0) (index .1 .0) (g .why) (Index (index .0) (index .1 .0)) (matched .why2 .given .1) refl (called .number .ensures)),
-    )
+    let index = matched .why2 .given .0 in
+    puts-same
+    (with-place (called .number .result) (index .0) (index .1 .0) (g .why) (Index (index .0) (index .1 .0)) (matched .why2 .given .1) refl (called .number .ensures))
+    (placed .put-place2 .ensures)
 
 returns-3 : tie.Need-returns-3
 returns-3 c =
     let numbered = c .before .before in
     let matched = numbered .before .before in
     let called = matched .before in
-    let g = called .before .before .args in (
-      numbered .put-number .ensures .0,
-      numbered .put-number .ensures .1
-          ∙ ap (after (length (g .out .now)) (take (g .at) (g .out .now))) (without-place (called .number .result) (g .why) (matched .match .keys3) (called .number .ensures)),
-    )
+    let g = called .before .before .args in
+    puts-same
+    (without-place (called .number .result) (g .why) (matched .match .keys3) (called .number .ensures)) (numbered .put-number .ensures)
 
 pub put-refusal-spec : {M : Type 1} → statement M
 put-refusal-spec =

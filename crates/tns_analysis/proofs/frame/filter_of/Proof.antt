@@ -7,7 +7,8 @@ use borrow.Author.Needs.{needs}
 use lib.Ieee.{Float}
 use lib.ListN.{replicate}
 use Rattle.tns_rows.specs.declared.row.Band.{Band}
-use Rattle.tns_index.specs.Quantizer.{indexOf, coefficientOf, orderOf, orderFrom, notAbove, plusZero}
+use Rattle.tns_rounding.specs.Floats.{f0}
+use Rattle.tns_index.specs.Quantizer.{indexOf, coefficientOf, orderOf, orderFrom, notAbove}
 use Rattle.tns_analysis.specs.Analysis.{filterRecord, reflectionsOf}
 use Rattle.tns_recursion.specs.declared.gain.FilterGain.{FilterGain}
 use Rattle.tns_side.specs.Quantized.{quantizedOf, absent}
@@ -15,7 +16,7 @@ use Rattle.tns_analysis.specs.FrameSide.{filterOf}
 use Rattle.tns_analysis.proofs.frame.filter_of.Statement.{statement}
 use Rattle.tns_analysis.proofs.frame.filter_of.Tie as tie
 
-zeros-absent : absent ≡ quantizedOf (replicate 8 plusZero)
+zeros-absent : absent ≡ quantizedOf (replicate 8 f0)
 unfolding absent quantizedOf indexOf coefficientOf orderOf orderFrom notAbove lib.Ieee.le lib.Ieee.ofBits
 zeros-absent = refl
 

@@ -5,13 +5,13 @@ use Prim.Native.Nat.{ℕ, _<_, _≤_}
 use borrow.Author.Needs.{needs}
 use borrow.Author.Tests.{lt-ltb, le-ltb}
 use lib.Dec.{ltb}
-use Rattle.tns_refusals.specs.Refusals.{Verdict, accepted, noFault, refused, bitsIn, itsBits, says, check, sideChecks, sideSays}
+use Rattle.tns_refusals.specs.Refusals.{numbered, Verdict, accepted, noFault, refused, bitsIn, itsBits, says, check, sideChecks, sideSays}
 use Rattle.tns_cost.specs.Cost.{costOf, costSays, countedBits}
 use Rattle.tns_refusals.specs.declared.Refusal.{Refusal}
 use Rattle.tns_refusals.specs.declared.Refusal.the-variants.{Weighting}
 use Rattle.tns_cost.specs.declared.budget.CostAnswer.{CostAnswer}
 use Rattle.tns_cost.specs.declared.budget.CostAnswer.the-variants.{Bits, Refused}
-use Rattle.tns_refusals.proofs.Sides.{settle, settle-says, sides-settle, sound-side}
+use Rattle.tns_refusals.proofs.Sides.{settle, sides-settle, sound-side}
 use Rattle.tns_cost.proofs.Costs.{cost-at-most}
 use Rattle.tns_cost.proofs.budget.cost.Statement.{statement}
 use Rattle.tns_cost.proofs.budget.cost.Tie as tie
@@ -23,11 +23,11 @@ module _ (weighting filters : ℕ) (orders indices : List ℕ) where
   unfolding costOf
   by-sides v e = rw e (sides-settle filters orders indices _)
 
-  refused-before : (why : Refusal) → says why ≡ sideChecks filters orders indices noFault → says why ≡ costOf weighting filters orders indices
-  refused-before why e = sym (by-sides (says why) e ∙ settle-says why _)
+  refused-before : (why : Refusal) → refused (says why) ≡ sideChecks filters orders indices noFault → refused (says why) ≡ costOf weighting filters orders indices
+  refused-before why e = sym (by-sides (refused (says why)) e)
 
   module _ (fine : noFault ≡ sideChecks filters orders indices noFault) where
-    refused-here : 1 < weighting → refused 8 ≡ costOf weighting filters orders indices
+    refused-here : 1 < weighting → refused (numbered 8) ≡ costOf weighting filters orders indices
     refused-here h = sym (by-sides noFault fine ∙ simp (lt-ltb _ _ h))
 
     has-bits : weighting ≤ 1 → accepted (countedBits weighting filters orders indices) ≡ costOf weighting filters orders indices

@@ -4,9 +4,10 @@ use mathlib.Core.List.{List}
 use Prim.Native.Nat.{ℕ, _<_, _≤_}
 use borrow.Author.Needs.{needs}
 use borrow.Author.Tests.{lt-ltb, le-ltb}
-use lib.ListN.{length, getD, take, drop}
+use lib.ListN.{length, getD}
+use Rattle.tns_lists.specs.Places.{part}
 use Rattle.tns_cost.specs.Cost.{costOf}
-use Rattle.tns_cost.specs.Records.{short, costs, lineOf}
+use Rattle.tns_cost.specs.Records.{short, costs, lineOf, fieldsOf}
 use Rattle.tns_cost.proofs.record.record_cost.Statement.{statement}
 use Rattle.tns_cost.proofs.record.record_cost.Tie as tie
 
@@ -15,8 +16,8 @@ unfolding lineOf
 too-few bytes h = simp (lt-ltb _ _ h)
 
 enough : (bytes : List ℕ) → 20 ≤ length bytes
-    → costs (costOf (getD bytes 0 0) (getD bytes 1 0) (take 2 (drop 2 bytes)) (take 16 (drop 4 bytes))) ≡ lineOf bytes
-unfolding lineOf
+    → costs (costOf (getD bytes 0 0) (getD bytes 1 0) (part 2 4 bytes) (part 4 20 bytes)) ≡ lineOf bytes
+unfolding lineOf fieldsOf
 enough bytes h = simp (le-ltb _ _ h)
 
 returns : tie.Need-returns

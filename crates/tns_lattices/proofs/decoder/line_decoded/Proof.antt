@@ -6,8 +6,9 @@ use Prim.Native.Nat.{ℕ, zero, suc, _+_, _-_, _<_, _≤_}
 use native.Mathlib.Numerals.{add-one, sub-one}
 use native.Mathlib.Nat.{not-suc-le-zero}
 use native.Mathlib.Omega.{arith}
-use lib.Ieee.{Float, nan, add, sub, mul, binary32}
+use lib.Ieee.{Float, nan}
 use lib.ListN.{getD, set}
+use Rattle.tns_rounding.specs.Floats.{_⊕_, _⊖_, _⊗_}
 use Rattle.tns_lattices.specs.DecoderLattice.{stage, stagesBelow, passing, lineDecoded}
 use Rattle.tns_lattices.specs.declared.Passed.{Passed}
 use Rattle.tns_lattices.proofs.decoder.line_decoded.Statement.{statement}
@@ -15,12 +16,12 @@ use Rattle.tns_lattices.proofs.decoder.line_decoded.Tie as tie
 
 -- t after the stage below k
 abbrev below : List Float → ℕ → Float → List Float → Float
-below q k t s = sub binary32 t (mul binary32 (getD q (k - 1) nan) (getD s (k - 1) nan))
+below q k t s = t ⊖ getD q (k - 1) nan ⊗ getD s (k - 1) nan
 
 -- the highest stage that is left, as the code does it, and then those below it
 one-stage : (q : List Float) (k : ℕ) (t : Float) (s : List Float) → 0 < k
     → stagesBelow q k (passing t s)
-    ≡ stagesBelow q (k - 1) (passing (below q k t s) (set s (k - 1 + 1) (add binary32 (mul binary32 (getD q (k - 1) nan) (below q k t s)) (getD s (k - 1) nan))))
+    ≡ stagesBelow q (k - 1) (passing (below q k t s) (set s (k - 1 + 1) (getD q (k - 1) nan ⊗ below q k t s ⊕ getD s (k - 1) nan)))
 unfolding stagesBelow stage
 one-stage q zero t s h = absurd (not-suc-le-zero h)
 one-stage q (suc k) t s h = rw (sub-one, add-one)
@@ -30,7 +31,7 @@ unfolding stagesBelow
 none-left q p = refl
 
 whole : (q : List Float) (order : ℕ) (states : List Float) (line : Float) (p : Passed) → 0 < order
-    → stagesBelow q (order - 1) (passing (sub binary32 line (mul binary32 (getD q (order - 1) nan) (getD states (order - 1) nan))) states) ≡ p
+    → stagesBelow q (order - 1) (passing (line ⊖ getD q (order - 1) nan ⊗ getD states (order - 1) nan) states) ≡ p
     → passing (p .t) (set (p .states) 0 (p .t)) ≡ lineDecoded q order states line
 unfolding lineDecoded
 whole q zero states line p h e = absurd (not-suc-le-zero h)

@@ -1,69 +1,32 @@
--- The invariant: the lines done, and what the definition makes of the rest from here,
--- are what it makes of all; the same of the states.
-use mathlib.Core.Path.{_≡_, refl, sym, _∙_, ap}
-use mathlib.Core.List.{List, _++_}
-use Prim.Native.Nat.{ℕ, _-_, _≤_}
+-- Each line goes through the lattice by itself; the loop's law is that of every lattice.
+use Prim.Native.Nat.{_-_}
 use native.Mathlib.Omega.{arith}
 use borrow.Author.Needs.{needs}
-use lib.Ieee.{Float, nan}
-use lib.ListN.{length, take, drop, length-set}
-use Rattle.tns_lists.proofs.InPlace.{one-more, state-more, none-left, state-left}
-use Rattle.tns_lattices.specs.DecoderLattice.{lineDecoded, linesDecoded, statesAfter}
-use Rattle.tns_lattices.specs.declared.Passed.{Passed}
+use lib.ListN.{length}
+use Rattle.tns_lattices.specs.DecoderLattice.{lineDecoded}
+use Rattle.tns_lattices.proofs.BandLines.{Going, begins, one-line, all-lines}
 use Rattle.tns_lattices.proofs.decoder.lines_decoded.Statement.{statement}
 use Rattle.tns_lattices.proofs.decoder.lines_decoded.Tie as tie
 
--- what a line becomes, and the states after it
-module _ (q : List Float) (order : ℕ) where
-  abbrev becomes : List Float → Float → Float
-  becomes s x = lineDecoded q order s x .t
-
-  abbrev after : List Float → Float → List Float
-  after s x = lineDecoded q order s x .states
-
 abbrev Inv-loop : tie.InvT-loop
-Inv-loop q order lines₀ state₀ i₀ lines state i =
-    (i ≤ length lines₀)
-    × (length lines ≡ length lines₀)
-    × (linesDecoded q order state₀ lines₀ ≡ take i lines ++ linesDecoded q order state (drop i lines))
-    × (statesAfter q order state₀ lines₀ ≡ statesAfter q order state (drop i lines))
+Inv-loop q order lines₀ state₀ i₀ lines state i = Going lineDecoded q order state₀ lines₀ state lines i
 
 abbrev μ-loop : tie.MeasureT-loop
 μ-loop q order lines₀ state₀ i₀ lines state i = length lines₀ - i
 
 loop-holds : tie.Need-loop-holds Inv-loop μ-loop
-loop-holds c = (omega arith, refl, refl, refl)
+loop-holds c = begins lineDecoded _ _ _ _
 
-line-decoded-requires : tie.Need-line-decoded-requires Inv-loop μ-loop
-line-decoded-requires c κs = c .before .before .before .before .pre
+line-requires : tie.Need-line-decoded-requires Inv-loop μ-loop
+line-requires c κs = c .before .before .before .before .pre
 
 loop-again : tie.Need-loop-again Inv-loop μ-loop
-unfolding linesDecoded statesAfter
 loop-again c =
     let l = c .before .before .before .before .loop in
-    let g = c .before .before .before .before .before .before .args in
-    let p = c .before .line-decoded .result in
-    let e = c .before .line-decoded .ensures in
-    let f = becomes (g .q) (g .order) in
-    let h = after (g .q) (g .order) in
-    let t = ap (λ (p : Passed). p .t) e in
-    let s = ap (λ (p : Passed). p .states) e in (
-      omega arith,
-      simp length-set (l .inv .1),
-      l .inv .2 ∙ one-more f h nan (l .state) (p .states) (l .lines) (l .i) (p .t) (omega arith) t s,
-      l .inv .3 ∙ state-more f h nan (l .state) (p .states) (l .lines) (l .i) (p .t) (omega arith) s,
-    )
+    one-line lineDecoded _ _ _ _ _ (l .lines) (l .i) (c .before .line-decoded .result) (l .inv) (omega (arith, l .inv .as-many)) (c .before .line-decoded .ensures)
 
 returns : tie.Need-returns Inv-loop μ-loop
-unfolding linesDecoded statesAfter
-returns c =
-    let l = c .before .loop in
-    let g = c .before .before .before .args in
-    let f = becomes (g .q) (g .order) in
-    let h = after (g .q) (g .order) in (
-      sym (l .inv .3 ∙ state-left f h nan (l .state) (l .lines) (l .i) (omega arith)),
-      sym (l .inv .2 ∙ none-left f h nan (l .state) (l .lines) (l .i) (omega arith)),
-    )
+returns c = let l = c .before .loop in all-lines lineDecoded _ _ _ _ _ (l .lines) (l .i) (l .inv) (omega (arith, l .inv .as-many))
 
 pub lines-decoded-spec : {M : Type 1} → statement M
 lines-decoded-spec =
@@ -74,7 +37,7 @@ lines-decoded-spec =
     loop-holds
     (λ c. omega arith)
     (λ c. omega arith)
-    line-decoded-requires
+    line-requires
     (λ c. omega arith)
     (λ c. search needs)
     (λ c. omega arith)

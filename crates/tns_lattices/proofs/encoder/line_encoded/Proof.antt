@@ -6,8 +6,9 @@ use native.Mathlib.Numerals.{sub-one}
 use native.Mathlib.Nat.{not-suc-le-zero}
 use native.Mathlib.Omega.{arith}
 use borrow.Author.Needs.{needs}
-use lib.Ieee.{Float, nan, add, mul, binary32}
+use lib.Ieee.{Float, nan}
 use lib.ListN.{getD, set}
+use Rattle.tns_rounding.specs.Floats.{_⊕_, _⊗_}
 use Rattle.tns_lattices.specs.EncoderLattice.{stagesTo, entering, lineEncoded}
 use Rattle.tns_lattices.specs.declared.encoder.Passing.{Passing}
 use Rattle.tns_lattices.specs.declared.Passed.{Passed}
@@ -16,7 +17,7 @@ use Rattle.tns_lattices.proofs.encoder.line_encoded.Tie as tie
 
 whole : (q : List Float) (order : ℕ) (states : List Float) (line : Float) (p : Passing) → 0 < order → p ≡ stagesTo q (order - 1) (entering line states)
     → _≡_ {A = Passed}
-    (record { t = add binary32 (p .t) (mul binary32 (getD q (order - 1) nan) (getD (p .states) (order - 1) nan)); states = set (p .states) (order - 1) (p .b) })
+    (record { t = p .t ⊕ getD q (order - 1) nan ⊗ getD (p .states) (order - 1) nan; states = set (p .states) (order - 1) (p .b) })
     (lineEncoded q order states line)
 unfolding lineEncoded
 whole q zero states line p h e = absurd (not-suc-le-zero h)

@@ -41,11 +41,13 @@ returns c =
     let first = c .before .before .before in
     let g = first .before .before .before .args in
     let n = c .before .before .least2 .result in
-    let all : l .i ≡ n = omega arith in (
-      counts _ (l .out) (omega arith),
-      put-there (g .out .now) (g .text .now) (l .out) (g .at) (first .least .result) n (first .least .ensures) (c .before .before .least2 .ensures)
-          (l .inv .2 ∙ ap (paste (g .out .now) (first .least .result) (g .text .now)) all),
-    )
+    let all : l .i ≡ n = omega arith in
+    record {
+      counts = counts _ (l .out) (omega arith);
+      bytes =
+          put-there (g .out .now) (g .text .now) (l .out) (g .at) (first .least .result) n (first .least .ensures) (c .before .before .least2 .ensures)
+          (l .inv .2 ∙ ap (paste (g .out .now) (first .least .result) (g .text .now)) all);
+    }
 
 pub put-spec : {M : Type 1} → statement M
 put-spec =

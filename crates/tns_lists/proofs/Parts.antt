@@ -4,19 +4,18 @@ use mathlib.Core.List.{List, []}
 use Prim.Native.Nat.{ℕ, _-_, _≤_, _<_, min}
 use native.Mathlib.Decide.{decLt}
 use native.Mathlib.Omega.{arith}
-use lib.Ieee.{Float}
 use lib.ListN.{length, take, drop, length-drop, drop-of-length-le}
 use lib.Seq.{take-all, take-nil}
-use Rattle.tns_lags.specs.Autocorrelation.{part}
+use Rattle.tns_lists.specs.Places.{part}
 
 -- beyond a list's length no more of it is taken
-take-more : (m n : ℕ) (xs : List Float) → length xs ≤ m → length xs ≤ n → take m xs ≡ take n xs
+take-more : {A : Type 0} (m n : ℕ) (xs : List A) → length xs ≤ m → length xs ≤ n → take m xs ≡ take n xs
 take-more m n xs h k = take-all m xs h ∙ sym (take-all n xs k)
 
-none-taken : (n : ℕ) (xs : List Float) → n ≡ 0 → take n xs ≡ []
+none-taken : {A : Type 0} (n : ℕ) (xs : List A) → n ≡ 0 → take n xs ≡ []
 none-taken n xs e = rw e
 
-module _ (start stop : ℕ) (xs : List Float) where
+module _ {A : Type 0} (start stop : ℕ) (xs : List A) where
   abbrev end : ℕ
   end = min stop (length xs)
 

@@ -1,0 +1,32 @@
+-- What `tns_encode` promises.
+use mathlib.Core.Path.{_≡_}
+use mathlib.Core.List.{List}
+use Prim.Native.Nat.{ℕ, _≤_}
+use lib.Ieee.{Float}
+use Rattle.tns_refusals.specs.Refusals.{Verdict, unlessRefused, IfAccepted, itsBits}
+use Rattle.tns_rows.specs.declared.row.Row.{Row}
+use Rattle.tns_side.specs.Side.{recordOf, coefficientsIn}
+use Rattle.tns_side.specs.declared.SideData.{SideData}
+use Rattle.tns_exact.specs.Exact.{NearExact}
+use Rattle.tns_encode.specs.Encoder.{bitsVerdict, sideIn, linesAfter}
+use Rattle.tns.specs.Answers.{answerFor}
+use Rattle.tns.specs.declared.Answer.{Answer}
+
+-- a caller's three lists, as a call finds them or leaves them: the spectrum, the 20 bytes of the record, the coefficients
+pub record Lent : Type 0 where
+  pub lines : List Float
+  pub bytes : List ℕ
+  pub coefficients : List Float
+
+-- By the verdict on the frame, whose bands are those of a row: the answer, and what each list holds. An accepted call writes all three, and a
+-- refused one leaves them as it found them. Then demand 3 of an accepted call, and that no answer has more than 168 bits.
+pub record TnsEncodes (verdict : Verdict SideData) (row : Row) (found left : Lent) (result : Answer) : Type 0 where
+  pub answer : result ≡ answerFor itsBits (bitsVerdict verdict)
+  pub lines : left .lines ≡ linesAfter verdict row (found .lines)
+  pub side : left .bytes ≡ unlessRefused verdict recordOf (found .bytes)
+  pub coefficients : left .coefficients ≡ unlessRefused verdict coefficientsIn (found .coefficients)
+  pub near : IfAccepted verdict (NearExact row (sideIn verdict) (found .lines) (left .lines))
+  pub few-bits : result .bits ≤ 168
+
+abbrev pub lent : List Float → List ℕ → List Float → Lent
+lent lines bytes coefficients = record { lines = lines; bytes = bytes; coefficients = coefficients }
