@@ -12,6 +12,7 @@ use Rattle.tns_recursion.specs.Recursion.{predicted}
 use Rattle.tns_recursion.specs.Gain.{gainRecord}
 use Rattle.tns_reflections.specs.Reflections.{damped, reflections}
 use Rattle.tns_recursion.specs.declared.gain.FilterGain.{FilterGain}
+use Rattle.tns_analysis.specs.declared.Analysed.{Analysed}
 
 -- the record of a filter on a band
 unfoldable pub filterRecord : Band → List Float → Bool → ℕ → FilterGain
@@ -24,3 +25,7 @@ unfoldable pub reflectionsOf : Band → List Float → Bool → ℕ → List Flo
 reflectionsOf b lines flag weighting =
     let g = filterRecord b lines flag weighting in
     cond (g .on) (reflections (damped (predicted (autocorrelation b lines) 8 .row) (g .damping))) (replicate 8 f0)
+
+-- what the analysis of a filter gives
+abbrev pub analysedOf : Band → List Float → Bool → ℕ → Analysed
+analysedOf b lines flag weighting = record { gain = filterRecord b lines flag weighting; reflections = reflectionsOf b lines flag weighting }

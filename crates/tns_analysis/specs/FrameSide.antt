@@ -7,9 +7,11 @@ use lib.Ieee.{Float}
 use Rattle.tns_rows.specs.declared.row.Band.{Band}
 use Rattle.tns_rows.specs.declared.row.Row.{Row}
 use Rattle.tns_side.specs.Quantized.{quantizedOf, absent}
+use Rattle.tns_side.specs.Side.{bitsOf}
 use Rattle.tns_side.specs.declared.Quantized.{Quantized}
 use Rattle.tns_side.specs.declared.SideData.{SideData}
 use Rattle.tns_analysis.specs.Analysis.{reflectionsOf}
+use Rattle.tns_analysis.specs.declared.frame.Found.{Found}
 
 -- the row has a second band
 abbrev pub hasSecond : Row → Bool
@@ -34,3 +36,7 @@ sideOf row lines flag weighting =
       first = filterOf (row .first) lines flag weighting;
       second = secondOf row lines flag weighting;
     }
+
+-- what the analysis of a frame gives: its side data, and their bits
+abbrev pub foundOf : Row → List Float → Bool → ℕ → Found
+foundOf row lines flag weighting = let side = sideOf row lines flag weighting in record { side = side; bits = bitsOf side }

@@ -13,7 +13,7 @@ use tns_reflections::damped_row;
 use tns_reflections::reflected_row;
 use tns_rows::Band;
 ghost use mathlib.Core.Path.{_≡_};
-ghost use Rattle.tns_analysis.specs.Analysis.{filterRecord, reflectionsOf};
+ghost use Rattle.tns_analysis.specs.Analysis.{analysedOf};
 
 // What the analysis gives: the record, and eight reflection coefficients.
 pub struct Analysed {
@@ -23,8 +23,7 @@ pub struct Analysed {
 
 // The analysis of any band. `flag` is the near-Nyquist flag.
 pub fn analyse(lines: &[f32], band: Band, flag: bool, weighting: u8) -> Analysed
-    ensures gain { λ r. ⌜ r .gain ≡ filterRecord band (now (lines .entry)) flag weighting ⌝ }
-    ensures reflections { λ r. ⌜ r .reflections ≡ reflectionsOf band (now (lines .entry)) flag weighting ⌝ }
+    ensures { λ r. ⌜ r ≡ analysedOf band (now (lines .entry)) flag weighting ⌝ }
 {
     let r = autocorrelated(lines, band);
     let p = predict(r);

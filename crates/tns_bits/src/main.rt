@@ -8,10 +8,9 @@ use tns_program::read_after;
 use tns_program::write;
 use tns_wording::put_line;
 ghost use mathlib.Core.Path.{_≡_};
-ghost use Prim.Native.Nat.{_+_, _*_, _/_, _%_, _≤_, _<_};
-ghost use lib.ListN.{length, take, drop};
-ghost use Rattle.io.specs.Counts.{Counts};
-ghost use Rattle.tns_bits.specs.Output.{linesText};
+ghost use Prim.Native.Nat.{_+_, _*_, _≤_, _<_};
+ghost use lib.ListN.{length};
+ghost use Rattle.tns_bits.specs.Output.{PutsLines, Answers};
 
 // Where the program stands between two reads: the next frame's number, how many bytes of a record not
 // yet whole are held at the start of the piece, and whether there is more to do.
@@ -27,8 +26,7 @@ fn put_lines(frame: u64, bytes: &[u8], count: usize, out: &mut [u8]) -> usize
     requires { ⌜ 20 * count ≤ length (now bytes) ⌝ }
     requires { ⌜ 81 * count ≤ length (now out) ⌝ }
     requires { ⌜ frame + count < 18446744073709551616 ⌝ }
-    ensures counts { λ r. ⌜ Counts r (now (out .exit)) ⌝ }
-    ensures lines { λ r. ⌜ take r (now (out .exit)) ≡ linesText frame (now (bytes .entry)) count ⌝ }
+    ensures { λ r. ⌜ PutsLines frame (now (bytes .entry)) count r (now (out .exit)) ⌝ }
 {
     let mut at = 0;
     let mut from = 0usize;
@@ -62,8 +60,7 @@ fn answer(input: &mut [u8], frame: u64, read: usize, output: &mut [u8]) -> Stand
     requires { ⌜ 16000 ≤ length (now input) ⌝ }
     requires { ⌜ 65536 ≡ length (now output) ⌝ }
     requires { ⌜ frame < 9223372036854775808 ⌝ }
-    ensures standing { λ r. ⌜ (r .frame ≡ frame + read / 20) × (r .held ≡ read % 20) ⌝ }
-    ensures held { λ r. ⌜ take (r .held) (now (input .exit)) ≡ take (r .held) (drop (read / 20 * 20) (now (input .entry))) ⌝ }
+    ensures { λ r. ⌜ Answers frame read (now (input .entry)) (now (input .exit)) r ⌝ }
 {
     let records = read / 20;
     let whole = records * 20;

@@ -16,7 +16,7 @@ use Rattle.tns_cost.proofs.record.record_cost.Kinds as record-cost-kind
 use Rattle.tns_cost.proofs.record.record_cost.Reads as record-cost-reads
 
 filter-bits : Determined 1 filter-bits-kinds.ps filter-bits-kinds.r filter-bits-reads.Post
-filter-bits κs a x y s t p q = itself (p .0) (q .0)
+filter-bits κs a x y s t p q = itself (p .bits) (q .bits)
 
 -- ---- an answer that says the paper's numbers
 
@@ -33,7 +33,7 @@ recordBack Short = refl
 recordBack (Whole answer) = ap Whole (costBack answer)
 
 cost : Determined 2 cost-kinds.ps cost-kinds.r cost-reads.Post
-cost κs a x y s t p q = coincide costSays (answerBack Bits Refused) costBack (p .0) (q .0)
+cost κs a x y s t p q = coincide costSays (answerBack Bits Refused) costBack (p .answer) (q .answer)
 
 record-cost : Determined 1 record-cost-kinds.ps record-cost-kinds.r record-cost-reads.Post
 record-cost κs a x y s t p q = coincide recordSays answerOf recordBack p q

@@ -1,10 +1,11 @@
 -- Document 01, "Cost": what the side data of a frame costs in bits, and the answer of the cost call.
+use mathlib.Core.Path.{_≡_}
 use mathlib.Core.List.{List, [], _∷_}
-use Prim.Native.Nat.{ℕ, zero, suc, _+_, _/_}
+use Prim.Native.Nat.{ℕ, zero, suc, _+_, _/_, _≤_}
 use lib.Dec.{ltb}
 use lib.ListN.{take, drop}
 use Rattle.tns_tables.specs.Tables.{ofOrder, orderBits, coefBits, cellsFrom}
-use Rattle.tns_refusals.specs.Refusals.{Verdict, accepted, refused, check, sideChecks, says}
+use Rattle.tns_refusals.specs.Refusals.{Verdict, accepted, refused, bitsIn, itsBits, check, sideChecks, says}
 use Rattle.tns_cost.specs.declared.budget.CostAnswer.{CostAnswer}
 use Rattle.tns_cost.specs.declared.budget.CostAnswer.the-variants.{Bits, Refused}
 
@@ -22,6 +23,11 @@ filterCost weighting order indices = orderCost weighting order + indexCosts (tak
 -- one bit plus that cost, rounded up
 unfoldable pub filterBits : ℕ → ℕ → List ℕ → ℕ
 filterBits weighting order indices = 1 + (filterCost weighting order indices + 2047) / 2048
+
+-- What is promised of one filter's bits: these are the definition's, and at most 84 up to order 8.
+pub record FilterPriced (weighting order : ℕ) (indices : List ℕ) (result : ℕ) : Type 0 where
+  pub bits : result ≡ filterBits weighting order indices
+  pub few : order ≤ 8 → result ≤ 84
 
 -- Per counted filter. Each has one of the orders and the next eight of the indices.
 unfoldable pub countedBits : ℕ → ℕ → List ℕ → List ℕ → ℕ
@@ -41,3 +47,8 @@ costOf weighting filters orders indices =
 abbrev pub costSays : CostAnswer → Verdict ℕ
 costSays (Bits bits) = accepted bits
 costSays (Refused why) = refused (says why)
+
+-- What is promised of it: it says the definition's verdict, and never more than 168 bits.
+pub record Priced (verdict : Verdict ℕ) (result : CostAnswer) : Type 0 where
+  pub answer : costSays result ≡ verdict
+  pub few : bitsIn itsBits (costSays result) ≤ 168

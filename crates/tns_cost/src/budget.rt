@@ -6,9 +6,8 @@ use tns_refusals::check_side;
 use tns_tables::coef_bits_below;
 use tns_tables::order_bits;
 ghost use mathlib.Core.Path.{_≡_};
-ghost use Prim.Native.Nat.{_≤_};
-ghost use Rattle.tns_refusals.specs.Refusals.{SoundSide, bitsIn, itsBits};
-ghost use Rattle.tns_cost.specs.Cost.{filterCost, filterBits, countedBits, costOf, costSays};
+ghost use Rattle.tns_refusals.specs.Refusals.{SoundSide};
+ghost use Rattle.tns_cost.specs.Cost.{filterCost, FilterPriced, countedBits, costOf, Priced};
 
 // The answer of `cost`: the bits, or why there are none.
 pub enum CostAnswer {
@@ -34,8 +33,7 @@ fn filter_cost(weighting: u8, order: u8, indices: &[u8]) -> u32
 
 // The bits of one filter, rounded up by itself, with the one bit that says whether it is on.
 pub fn filter_bits(weighting: u8, order: u8, indices: &[u8]) -> u16
-    ensures bits { λ r. ⌜ r ≡ filterBits weighting order (now (indices .entry)) ⌝ }
-    ensures few { λ r. ⌜ (order ≤ 8 → r ≤ 84) ⌝ }
+    ensures { λ r. ⌜ FilterPriced weighting order (now (indices .entry)) r ⌝ }
 {
     let cost = filter_cost(weighting, order, indices);
     1 + ((cost + 2047) / 2048) as u16
@@ -59,8 +57,7 @@ fn counted_bits(weighting: u8, filters: u8, orders: &[u8], indices: &[u8]) -> u1
 // The cost of a frame's side data, for any numbers and lists of any lengths: refusals 4 to 8, or the
 // bits.
 pub fn cost(weighting: u8, filters: u8, orders: &[u8], indices: &[u8]) -> CostAnswer
-    ensures answer { λ r. ⌜ costSays r ≡ costOf weighting filters (now (orders .entry)) (now (indices .entry)) ⌝ }
-    ensures few { λ r. ⌜ bitsIn itsBits (costSays r) ≤ 168 ⌝ }
+    ensures { λ r. ⌜ Priced (costOf weighting filters (now (orders .entry)) (now (indices .entry))) r ⌝ }
 {
     let side = check_side(filters, orders, indices);
     match side {

@@ -16,4 +16,4 @@ decodeBack Decoded = refl
 decodeBack (Refused why) = ap Refused (of-eight why .back)
 
 decode : DeterminedWith 3 decode-kinds.ps decode-kinds.r decode-reads.Post (List Float) (λ κs s. s .1 .1 .1 .1 .1 .0 .now)
-decode κs a x y s t p q = (coincide decodeSays (answerBack (λ u. Decoded) Refused) decodeBack (p .0) (q .0), itself (p .1) (q .1))
+decode κs a x y s t p q = (coincide decodeSays (answerBack (λ u. Decoded) Refused) decodeBack (p .answer) (q .answer), itself (p .lines) (q .lines))

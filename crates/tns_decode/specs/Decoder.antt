@@ -1,4 +1,5 @@
 -- The decode call: its answer, and the spectrum after it.
+use mathlib.Core.Path.{_≡_}
 use mathlib.Core.List.{List, [], _∷_, map}
 use Prim.Native.Nat.{ℕ, zero, suc}
 use lib.ListN.{getD, take, drop, length}
@@ -49,3 +50,8 @@ spectrumDecoded duration bandwidth filters orders indices lines =
 abbrev pub decodeSays : DecodeAnswer → Verdict (Unit {0})
 decodeSays Decoded = noFault
 decodeSays (Refused why) = refused (says why)
+
+-- What the call promises: what it answers, and the lines that it leaves of those that it finds.
+pub record Decodes (duration bandwidth filters : ℕ) (orders indices : List ℕ) (found left : List Float) (result : DecodeAnswer) : Type 0 where
+  pub answer : decodeSays result ≡ decodeChecks duration bandwidth filters orders indices (length found)
+  pub lines : left ≡ spectrumDecoded duration bandwidth filters orders indices found

@@ -1,5 +1,6 @@
-// The decode call: it checks a frame and its side data, and undoes the encoder's filter over the bands
-// in the caller's own spectrum.
+// The decode call. A frame goes through it in the order of this file: its checks in `decode`, then the
+// counted filters in the caller's own spectrum, each over the lines of its band, with coefficients by
+// its indices. This undoes the encoder's filter.
 use tns_frames::FrameAnswer;
 use tns_frames::check_frame;
 use tns_index::coefficient_of;
@@ -17,7 +18,7 @@ ghost use Rattle.tns_refusals.specs.Refusals.{SoundSide};
 ghost use Rattle.tns_rows.proofs.Bands.{Fits, SoundRow};
 ghost use Rattle.tns_lattices.specs.DecoderLattice.{lineDecoded};
 ghost use Rattle.tns_filters.specs.Filters.{FilteredIn};
-ghost use Rattle.tns_decode.specs.Decoder.{decoderCoefficient, decoderFilter, rowDecoded, decodeChecks, spectrumDecoded, decodeSays};
+ghost use Rattle.tns_decode.specs.Decoder.{decoderCoefficient, decoderFilter, rowDecoded, Decodes};
 
 // The answer of `decode`.
 pub enum DecodeAnswer {
@@ -25,26 +26,66 @@ pub enum DecodeAnswer {
     Refused(Refusal),
 }
 
-// The coefficient that an index stands for. As in D, index 0 stands for 0.
-fn decoder_coefficient(index: u8) -> f32
-    ensures { λ r. ⌜ r ≡ decoderCoefficient index ⌝ }
+// Decodes a spectrum in place. Any numbers and lists may be given: a frame or side data that document
+// 01 refuses is refused by number and leaves every line as it was.
+pub fn decode(
+    duration: u8,
+    bandwidth: u8,
+    filters: u8,
+    orders: &[u8],
+    indices: &[u8],
+    lines: &mut [f32],
+) -> DecodeAnswer
+    ensures { λ r. ⌜ Decodes duration bandwidth filters (now (orders .entry)) (now (indices .entry)) (now (lines .entry)) (now (lines .exit)) r ⌝ }
 {
-    if index == 0 {
-        return 0.0;
+    let frame = check_frame(duration, bandwidth, lines.len());
+    match frame {
+        FrameAnswer::Refused(why) => DecodeAnswer::Refused(why),
+        FrameAnswer::Sound(row) => {
+            let side = check_side(filters, orders, indices);
+            match side {
+                SideAnswer::Refused(why) => DecodeAnswer::Refused(why),
+                SideAnswer::Sound => {
+                    row_decoded(row, filters, orders, indices, lines);
+                    DecodeAnswer::Decoded
+                }
+            }
+        }
     }
-    coefficient_of(index)
 }
 
-// The eight coefficients of a filter.
-fn coefficients(indices: &[u8]) -> [f32; 8]
-    requires { ⌜ length (now indices) ≡ 8 ⌝ }
-    ensures { λ r. ⌜ r ≡ map decoderCoefficient (now (indices .entry)) ⌝ }
+// A sound frame with sound side data: the row's bands decoded, and nothing done where every counted
+// filter has order 0.
+fn row_decoded(row: Row, filters: u8, orders: &[u8], indices: &[u8], lines: &mut [f32])
+    requires { ⌜ SoundRow row (length (now lines)) ⌝ }
+    requires { ⌜ SoundSide filters (now orders) (now indices) ⌝ }
+    ensures { λ _. ⌜ now (lines .exit) ≡ rowDecoded row filters (now (orders .entry)) (now (indices .entry)) (now (lines .entry)) ⌝ }
 {
-    let mut q = [0.0; 8];
-    for k in 0..8usize {
-        q[k] = decoder_coefficient(indices[k]);
+    if orders[0] == 0 {
+        if filters == 1 {
+            return;
+        }
+        if orders[1] == 0 {
+            return;
+        }
     }
-    q
+    filters_decoded(row, filters, orders, indices, lines);
+}
+
+// The counted filters, each in its band, the states carried from the first to the second.
+fn filters_decoded(row: Row, filters: u8, orders: &[u8], indices: &[u8], lines: &mut [f32])
+    requires { ⌜ SoundRow row (length (now lines)) ⌝ }
+    requires { ⌜ SoundSide filters (now orders) (now indices) ⌝ }
+    ensures { λ _. ⌜ now (lines .exit) ≡ rowDecoded row filters (now (orders .entry)) (now (indices .entry)) (now (lines .entry)) ⌝ }
+{
+    if filters == 0 {
+        return;
+    }
+    let states = filter_decoded(row.first, orders[0], &indices[0..8], [0.0; 8], lines);
+    if filters == 1 {
+        return;
+    }
+    filter_decoded(row.second, orders[1], &indices[8..16], states, lines);
 }
 
 // One filter, in its band of the whole spectrum. It answers the states after it.
@@ -68,64 +109,24 @@ fn filter_decoded(
     band_decoded(q, order, states, &mut lines[start..stop])
 }
 
-// The counted filters, each in its band, the states carried from the first to the second.
-fn filters_decoded(row: Row, filters: u8, orders: &[u8], indices: &[u8], lines: &mut [f32])
-    requires { ⌜ SoundRow row (length (now lines)) ⌝ }
-    requires { ⌜ SoundSide filters (now orders) (now indices) ⌝ }
-    ensures { λ _. ⌜ now (lines .exit) ≡ rowDecoded row filters (now (orders .entry)) (now (indices .entry)) (now (lines .entry)) ⌝ }
+// The eight coefficients of a filter.
+fn coefficients(indices: &[u8]) -> [f32; 8]
+    requires { ⌜ length (now indices) ≡ 8 ⌝ }
+    ensures { λ r. ⌜ r ≡ map decoderCoefficient (now (indices .entry)) ⌝ }
 {
-    if filters == 0 {
-        return;
+    let mut q = [0.0; 8];
+    for k in 0..8usize {
+        q[k] = decoder_coefficient(indices[k]);
     }
-    let states = filter_decoded(row.first, orders[0], &indices[0..8], [0.0; 8], lines);
-    if filters == 1 {
-        return;
-    }
-    filter_decoded(row.second, orders[1], &indices[8..16], states, lines);
+    q
 }
 
-// The same, with nothing done where every counted filter has order 0.
-fn row_decoded(row: Row, filters: u8, orders: &[u8], indices: &[u8], lines: &mut [f32])
-    requires { ⌜ SoundRow row (length (now lines)) ⌝ }
-    requires { ⌜ SoundSide filters (now orders) (now indices) ⌝ }
-    ensures { λ _. ⌜ now (lines .exit) ≡ rowDecoded row filters (now (orders .entry)) (now (indices .entry)) (now (lines .entry)) ⌝ }
+// The coefficient that an index stands for. As in D, index 0 stands for 0.
+fn decoder_coefficient(index: u8) -> f32
+    ensures { λ r. ⌜ r ≡ decoderCoefficient index ⌝ }
 {
-    if orders[0] == 0 {
-        if filters == 1 {
-            return;
-        }
-        if orders[1] == 0 {
-            return;
-        }
+    if index == 0 {
+        return 0.0;
     }
-    filters_decoded(row, filters, orders, indices, lines);
-}
-
-// Decodes a spectrum in place. Any numbers and lists may be given: a frame or side data that document
-// 01 refuses is refused by number and leaves every line as it was.
-pub fn decode(
-    duration: u8,
-    bandwidth: u8,
-    filters: u8,
-    orders: &[u8],
-    indices: &[u8],
-    lines: &mut [f32],
-) -> DecodeAnswer
-    ensures answer { λ r. ⌜ decodeSays r ≡ decodeChecks duration bandwidth filters (now (orders .entry)) (now (indices .entry)) (length (now (lines .entry))) ⌝ }
-    ensures lines { λ _. ⌜ now (lines .exit) ≡ spectrumDecoded duration bandwidth filters (now (orders .entry)) (now (indices .entry)) (now (lines .entry)) ⌝ }
-{
-    let frame = check_frame(duration, bandwidth, lines.len());
-    match frame {
-        FrameAnswer::Refused(why) => DecodeAnswer::Refused(why),
-        FrameAnswer::Sound(row) => {
-            let side = check_side(filters, orders, indices);
-            match side {
-                SideAnswer::Refused(why) => DecodeAnswer::Refused(why),
-                SideAnswer::Sound => {
-                    row_decoded(row, filters, orders, indices, lines);
-                    DecodeAnswer::Decoded
-                }
-            }
-        }
-    }
+    coefficient_of(index)
 }

@@ -7,6 +7,7 @@ use Prim.Native.Nat.{ℕ, _≤_}
 use lib.ListN.{length}
 use lib.Ieee.{Float}
 use Rattle.tns_refusals.specs.Refusals.{Verdict, accepted, refused, unlessRefused, onAccepted, IfAccepted, bitsIn, itsBits, says}
+use Rattle.tns_refusals.specs.declared.Refusal.{Refusal}
 use Rattle.tns_rows.specs.Durations.{numbersOf, durationOf, weightingOf}
 use Rattle.tns_rows.specs.Bands.{rowOf}
 use Rattle.tns_rows.specs.declared.row.Row.{Row}
@@ -57,3 +58,15 @@ pub record Encodes (verdict : Verdict SideData) (row : Row) (found left : List F
   pub lines : left ≡ linesAfter verdict row found
   pub near : IfAccepted verdict (NearExact row (sideIn verdict) found left)
   pub few-bits : bitsIn itsBits (encodeSays (result .answer)) ≤ 168
+
+-- ---- what inner contracts cite; no public promise rests on these names
+
+-- what a refused call gives
+abbrev pub refusedWith : Refusal → Encoded
+refusedWith why = record { answer = Refused why; side = noSide }
+
+-- what becomes of a sound frame of some side data
+pub record RowEncodes (its : SideData) (row : Row) (found left : List Float) (result : Encoded) : Type 0 where
+  pub answer : encodeSays (result .answer) ≡ accepted (bitsOf its)
+  pub side : result .side ≡ its
+  pub lines : left ≡ filteredBy its row found

@@ -15,17 +15,16 @@ use tns_side::SideData;
 ghost use mathlib.Core.Path.{_≡_};
 ghost use Prim.Native.Nat.{_≤_};
 ghost use lib.ListN.{length};
-ghost use Rattle.tns_refusals.specs.Refusals.{accepted, refused, says};
 ghost use Rattle.tns_rows.specs.Durations.{durationOf};
 ghost use Rattle.tns_rows.specs.Bands.{rowOf};
 ghost use Rattle.tns_rows.proofs.Bands.{Fits, SoundRow};
 ghost use Rattle.tns_lattices.specs.EncoderLattice.{lineEncoded};
 ghost use Rattle.tns_filters.specs.Filters.{filterWith, FilteredIn};
-ghost use Rattle.tns_side.specs.Side.{bitsOf, noFilter, noSide};
+ghost use Rattle.tns_side.specs.Side.{noFilter};
 ghost use Rattle.tns_side.specs.Limits.{Reported};
 ghost use Rattle.tns_exact.specs.SideFilters.{filteredBy};
 ghost use Rattle.tns_analysis.specs.FrameSide.{sideOf};
-ghost use Rattle.tns_encode.specs.Encoder.{encodeVerdict, encodeSays, Encodes};
+ghost use Rattle.tns_encode.specs.Encoder.{encodeVerdict, Encodes, refusedWith, RowEncodes};
 
 // The answer of `encode`: the bits of the side data, or why there are none.
 pub enum EncodeAnswer {
@@ -66,8 +65,7 @@ fn no_filter() -> Quantized
 
 // What a refused call gives beside the refusal: nothing.
 fn refused(why: Refusal) -> Encoded
-    ensures answer { λ r. ⌜ encodeSays (r .answer) ≡ refused (says why) ⌝ }
-    ensures side { λ r. ⌜ r .side ≡ noSide ⌝ }
+    ensures { λ r. ⌜ r ≡ refusedWith why ⌝ }
 {
     let first = no_filter();
     let second = no_filter();
@@ -86,9 +84,7 @@ fn refused(why: Refusal) -> Encoded
 // A sound frame: the bits and the side data of its filters, and its bands filtered.
 fn row_encoded(row: Row, flag: bool, weighting: u8, lines: &mut [f32]) -> Encoded
     requires { ⌜ SoundRow row (length (now lines)) ⌝ }
-    ensures answer { λ r. ⌜ encodeSays (r .answer) ≡ accepted (bitsOf (sideOf row (now (lines .entry)) flag weighting)) ⌝ }
-    ensures side { λ r. ⌜ r .side ≡ sideOf row (now (lines .entry)) flag weighting ⌝ }
-    ensures lines { λ _. ⌜ now (lines .exit) ≡ filteredBy (sideOf row (now (lines .entry)) flag weighting) row (now (lines .entry)) ⌝ }
+    ensures { λ r. ⌜ RowEncodes (sideOf row (now (lines .entry)) flag weighting) row (now (lines .entry)) (now (lines .exit)) r ⌝ }
 {
     let found = analyse_frame(lines, row, flag, weighting);
     let side = found.side;

@@ -20,7 +20,7 @@ use Rattle.tns_rounding.proofs.Values.{enters, leaves}
 use Rattle.tns_rounding.proofs.Factors.{Factor}
 use Rattle.tns_rounding.specs.Floats.{f0}
 use Rattle.tns_lists.specs.Lines.{linesThrough, stateThrough}
-use Rattle.tns_lattices.specs.EncoderLattice.{stage, stagesTo, entering, lineEncoded}
+use Rattle.tns_lattices.specs.EncoderLattice.{stageUp, stagesTo, entering, lineEncoded}
 use Rattle.tns_lattices.specs.Lattice.{atRest, linesBy, statesBy}
 use Rattle.tns_exact.specs.Exact.{finer, ExactPassing, ExactPassed, exactStage, exactStagesTo, exactEntering, lineExact, linesExact, statesExact, exactRest, nearness, EachNear}
 use Rattle.tns_lattices.specs.declared.encoder.Passing.{Passing}
@@ -119,8 +119,8 @@ module _ (h k : ℕ) (small : h ≤ 245) (low : k < 8) (q : Float) (f : Factor q
   stores-b : Held h (set (p .states) k (p .b)) (set (exact .states) k (exact .b))
   stores-b = stored h k (p .states) (exact .states) (p .b) (exact .b) low (g .states) (g .b)
 
-  stage-near : Going h (suc k) (stage q k p) (exactStage (inUnits 26 q) k exact)
-  unfolding stage exactStage
+  stage-near : Going h (suc k) (stageUp q k p) (exactStage (inUnits 26 q) k exact)
+  unfolding stageUp exactStage
   stage-near = record { t = on-t; b = on-b; states = stores-b }
 
 -- ---- a filter's coefficients, all eight of them factors
@@ -133,7 +133,7 @@ in-parts-at q k = List·getD-map (inUnits 26) q k nan
 
 module _ (h : ℕ) (small : h ≤ 245) (q : List Float) (fs : Factors q) where
   one-more : (k : ℕ) → k < 8 → (p : Passing) (exact : ExactPassing) → Going h k p exact
-      → Going h (suc k) (stage (getD q k nan) k p) (exactStage (getD (map (inUnits 26) q) k (pos 0)) k exact)
+      → Going h (suc k) (stageUp (getD q k nan) k p) (exactStage (getD (map (inUnits 26) q) k (pos 0)) k exact)
   one-more k low p exact g = rw (in-parts-at q k) (stage-near h k small low (getD q k nan) (fs k low) p exact g)
 
   stages-near : (n : ℕ) → n ≤ 8 → (p : Passing) (exact : ExactPassing) → Going h 0 p exact → Going h n (stagesTo q n p) (exactStagesTo (map (inUnits 26) q) n exact)

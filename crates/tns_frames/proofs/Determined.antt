@@ -29,4 +29,4 @@ check-frame κs a x y s t p q = coincide frameSays (answerBack Sound Refused) fr
 
 band-lines : (κs : Lfts 1) (a : Dens κs band-lines-kinds.ps) (x y : resT band-lines-kinds.r κs .Denot) (s t : AtExit (endedOf 1 band-lines-kinds.ps band-lines-kinds.r) κs)
     → band-lines-reads.Post κs a x s → band-lines-reads.Post κs a y t → (ptr x ≡ ptr y) × (now x ≡ now y)
-band-lines κs a x y s t p q = (itself (p .1 .0) (q .1 .0), itself (p .0) (q .0))
+band-lines κs a x y s t p q = (itself (p .begins) (q .begins), itself (p .lines) (q .lines))

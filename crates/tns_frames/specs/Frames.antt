@@ -1,10 +1,14 @@
 -- Document 01, "Refusal numbers" and "Band rows": checks 1 to 3 of a frame, and the band that a caller asks for.
+use mathlib.Core.Path.{_≡_}
 use mathlib.Core.Bool.{_||_}
+use mathlib.Core.List.{List}
 use Prim.Native.Nat.{ℕ, _+_, _-_, _*_}
 use lib.Dec.{ltb}
+use lib.Ieee.{Float}
+use lib.ListN.{length}
 use Rattle.tns_refusals.specs.Refusals.{Verdict, accepted, refused, check, says, unlessRefused}
 use Rattle.tns_rows.specs.Durations.{durationOf, numbersOf}
-use Rattle.tns_rows.specs.Bands.{rowOf, bandOf, noBand, lastStop}
+use Rattle.tns_rows.specs.Bands.{rowOf, bandOf, noBand, lastStop, inside}
 use Rattle.tns_rows.specs.declared.duration.Duration.{Duration}
 use Rattle.tns_rows.specs.declared.row.Band.{Band}
 use Rattle.tns_rows.specs.declared.row.Row.{Row}
@@ -42,3 +46,10 @@ linesOf band = band .stop - band .start
 -- where a line stands of a list that begins at a pointer, which is a block of memory and an offset in bytes: a line has four
 abbrev pub lineAt : ℕ × ℕ → ℕ → ℕ × ℕ
 lineAt list line = (list .0, list .1 + line * 4)
+
+-- What is promised of a band that is handed back as a part of the caller's own spectrum: its lines, where it begins, and how long it is. `found` are
+-- the lines of the spectrum, which begin at `list`.
+pub record PartOf (band : Band) (list : ℕ × ℕ) (found : List Float) (place : ℕ × ℕ) (part : List Float) : Type 0 where
+  pub lines : part ≡ inside band found
+  pub begins : place ≡ lineAt list (band .start)
+  pub count : length part ≡ linesOf band

@@ -10,8 +10,8 @@ ghost use mathlib.Core.Path.{_≡_};
 ghost use denote.Ref.{ptr};
 ghost use lib.ListN.{length};
 ghost use Rattle.tns_refusals.specs.Refusals.{accepted};
-ghost use Rattle.tns_rows.specs.Bands.{rowOf, noBand, bandOf, lastStop, inside};
-ghost use Rattle.tns_frames.specs.Frames.{lengthCheck, frameOf, frameSays, askedBand, lineAt, linesOf};
+ghost use Rattle.tns_rows.specs.Bands.{rowOf, noBand, bandOf, lastStop};
+ghost use Rattle.tns_frames.specs.Frames.{lengthCheck, frameOf, frameSays, askedBand, PartOf};
 
 fn last_stop(row: Row) -> usize
     ensures { λ r. ⌜ r ≡ lastStop row ⌝ }
@@ -98,9 +98,7 @@ pub fn asked_band(duration: u8, bandwidth: u8, filter: u8, lines: usize) -> Band
 // lies is promised. Of the other lines nothing is: the language says nothing of a `&mut` parameter that
 // goes into the result (docs/DECISIONS.md).
 pub fn band_lines(duration: u8, bandwidth: u8, filter: u8, lines: &mut [f32]) -> &mut [f32]
-    ensures lines { λ r. ⌜ now r ≡ inside (askedBand duration bandwidth filter (length (now (lines .entry)))) (now (lines .entry)) ⌝ }
-    ensures place { λ r. ⌜ ptr r ≡ lineAt (ptr (lines .entry)) (askedBand duration bandwidth filter (length (now (lines .entry))) .start) ⌝ }
-    ensures count { λ r. ⌜ length (now r) ≡ linesOf (askedBand duration bandwidth filter (length (now (lines .entry)))) ⌝ }
+    ensures { λ r. ⌜ PartOf (askedBand duration bandwidth filter (length (now (lines .entry)))) (ptr (lines .entry)) (now (lines .entry)) (ptr r) (now r) ⌝ }
 {
     let asked = asked_band(duration, bandwidth, filter, lines.len());
     let start = asked.start;

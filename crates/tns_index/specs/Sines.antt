@@ -53,8 +53,8 @@ sizeOf pattern = sizeIn (ofBits binary32 pattern)
     sizeIn (fin s m e) = m * up e * 2 ^ 149 / down e
 
 -- The finite f32s have places: pattern k without a sign stands at k, with its sign at -k. Neighbours have neighbouring places.
-unfoldable pub placeOf : ℕ → ℤ
-placeOf pattern = cond (ltb pattern (2 ^ 31)) (pos pattern) (negℤ (pos (pattern - 2 ^ 31)))
+unfoldable pub rankOf : ℕ → ℤ
+rankOf pattern = cond (ltb pattern (2 ^ 31)) (pos pattern) (negℤ (pos (pattern - 2 ^ 31)))
 
 -- the f32 at a place, in units of 2 ^ -149
 unfoldable pub valueAt : ℤ → ℤ
@@ -89,11 +89,11 @@ unfolding opposite cosine17 valueAt
 withinTwo k = opposite (cosine17 (valueAt (k -ℤ pos 2)) (pos (2 ^ 149))) (cosine17 (valueAt (k +ℤ pos 2)) (pos (2 ^ 149)))
 
 -- each coefficient is the f32 nearest to its sine
-pub coefficients-are-sines : every nearestToRoot (map placeOf coefficientPatterns) ≡ true
-unfolding nearestToRoot placeOf ofBits
+pub coefficients-are-sines : every nearestToRoot (map rankOf coefficientPatterns) ≡ true
+unfolding nearestToRoot rankOf ofBits
 coefficients-are-sines = refl
 
 -- each threshold lies within two units in the last place of its sine
-pub thresholds-are-sines : every withinTwo (map placeOf thresholdPatterns) ≡ true
-unfolding withinTwo placeOf ofBits
+pub thresholds-are-sines : every withinTwo (map rankOf thresholdPatterns) ≡ true
+unfolding withinTwo rankOf ofBits
 thresholds-are-sines = refl

@@ -11,7 +11,7 @@ use Rattle.tns_rounding.specs.Floats.{_⊕_, _⊗_, f0}
 use Rattle.tns_lists.specs.Places.{at, tab}
 use Rattle.tns_lags.specs.Autocorrelation.{products, lagSum}
 use Rattle.tns_lags.specs.PartialSums.{addedCell, sumsTo}
-use Rattle.tns_lists.proofs.Tab.{length-tab, at-tab, is-tab}
+use Rattle.tns_lists.proofs.Tab.{length-tab, at-tab, is-tab, elsewhere}
 
 module _ (sums xs : List Float) (n : ℕ) where
   pub added-none : (j : ℕ) → at sums j ≡ addedCell sums xs n 0 j
@@ -24,10 +24,7 @@ module _ (sums xs : List Float) (n : ℕ) where
   not-added k = simp (le-ltb k k (omega arith))
 
   pub added-elsewhere : (k j : ℕ) → (j ≡ k → ⊥) → addedCell sums xs n (k + 1) j ≡ addedCell sums xs n k j
-  added-elsewhere k j d = elim (decLt j k) [
-    | yes below ↦ rw (lt-ltb j k below, lt-ltb j (k + 1) (omega arith))
-    | no above ↦ rw (le-ltb j k (omega arith), le-ltb j (k + 1) (omega arith))
-  ]
+  added-elsewhere k j d = rw (elsewhere k j d)
 
 -- the first none and the first m + 1 products
 no-products : (xs : List Float) (k m : ℕ) → m ≡ 0 → f0 ≡ products xs k m

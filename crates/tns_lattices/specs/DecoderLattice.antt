@@ -11,8 +11,8 @@ abbrev pub passing : Float → List Float → Passed
 passing t states = record { t = t; states = states }
 
 -- t = t - q·state[k], then state[k+1] = q·t + state[k]
-unfoldable pub stage : Float → ℕ → Passed → Passed
-stage q k p =
+unfoldable pub stageDown : Float → ℕ → Passed → Passed
+stageDown q k p =
     let old = getD (p .states) k nan in
     let t = p .t ⊖ q ⊗ old in
     passing t (set (p .states) (suc k) (q ⊗ t ⊕ old))
@@ -20,7 +20,7 @@ stage q k p =
 -- downwards: the stages below a number
 unfoldable pub stagesBelow : List Float → ℕ → Passed → Passed
 stagesBelow q zero p = p
-stagesBelow q (suc k) p = stagesBelow q k (stage (getD q k nan) k p)
+stagesBelow q (suc k) p = stagesBelow q k (stageDown (getD q k nan) k p)
 
 -- t = line - q·state at the last stage; downwards; the line and state[0] become t. A filter of order 0 changes neither line nor state.
 unfoldable pub lineDecoded : List Float → ℕ → List Float → Float → Passed

@@ -8,15 +8,15 @@ use Rattle.tns_lattices.specs.declared.encoder.Passing.{Passing}
 use Rattle.tns_lattices.specs.declared.Passed.{Passed}
 
 -- new b = q·t + state, then t = t + q·state (old state); the state takes the old b
-unfoldable pub stage : Float → ℕ → Passing → Passing
-stage q k p =
+unfoldable pub stageUp : Float → ℕ → Passing → Passing
+stageUp q k p =
     let old = getD (p .states) k nan in
     record { t = p .t ⊕ q ⊗ old; b = q ⊗ p .t ⊕ old; states = set (p .states) k (p .b) }
 
 -- upwards: the stages below a number
 unfoldable pub stagesTo : List Float → ℕ → Passing → Passing
 stagesTo q zero p = p
-stagesTo q (suc k) p = stage (getD q k nan) k (stagesTo q k p)
+stagesTo q (suc k) p = stageUp (getD q k nan) k (stagesTo q k p)
 
 -- t and b start as the line
 abbrev pub entering : Float → List Float → Passing

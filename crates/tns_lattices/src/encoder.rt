@@ -4,7 +4,7 @@ use crate::Passed;
 ghost use mathlib.Core.Path.{_≡_};
 ghost use Prim.Native.Nat.{_<_, _≤_, min};
 ghost use Rattle.tns_lattices.specs.Lattice.{Filtered};
-ghost use Rattle.tns_lattices.specs.EncoderLattice.{stage, stagesTo, entering, lineEncoded};
+ghost use Rattle.tns_lattices.specs.EncoderLattice.{stageUp, stagesTo, entering, lineEncoded};
 
 // A line on its way: t and b, with the states as they are.
 pub struct Passing {
@@ -15,7 +15,7 @@ pub struct Passing {
 
 fn stage_up(p: Passing, q: f32, k: usize) -> Passing
     requires { ⌜ k < 8 ⌝ }
-    ensures { λ r. ⌜ r ≡ stage q k p ⌝ }
+    ensures { λ r. ⌜ r ≡ stageUp q k p ⌝ }
 {
     let old = p.states[k];
     let t = p.t;

@@ -5,6 +5,8 @@ use Prim.Native.Nat.{ℕ, zero, suc, _+_, _<_}
 use native.Mathlib.Nat.{ne-of-lt}
 use native.Mathlib.Omega.{arith}
 use native.Mathlib.Decide.{decLt, ℕ-discrete}
+use lib.Dec.{ltb}
+use borrow.Author.Tests.{lt-ltb, le-ltb}
 use lib.Ieee.{Float, nan}
 use lib.ListN.{length, set, length-append, List·getD-append}
 use lib.Seq.{ext-getD, getD-at, getD-set-same, getD-set-other}
@@ -37,6 +39,13 @@ filled-more f xs n v l e h i g = elim (decLt i n) [
   | no above ↦
       let s : i ≡ n = omega arith in
       rw s (getD-set-same xs n v nan l ∙ e)
+]
+
+-- a place other than n is below n + 1 exactly if it is below n
+pub elsewhere : (n j : ℕ) → (j ≡ n → ⊥) → ltb j (n + 1) ≡ ltb j n
+elsewhere n j d = elim (decLt j n) [
+  | yes below ↦ rw (lt-ltb j n below, lt-ltb j (n + 1) (omega arith))
+  | no above ↦ rw (le-ltb j n (omega arith), le-ltb j (n + 1) (omega arith))
 ]
 
 -- A store at place k of an array of nine whose places follow F at k: they follow F at k + 1, where F changes at place k alone.

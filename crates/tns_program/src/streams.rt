@@ -4,7 +4,7 @@ use libc::STDOUT_FILENO;
 ghost use mathlib.Core.Path.{_≡_};
 ghost use Prim.Native.Nat.{_+_, _≤_};
 ghost use lib.ListN.{length, take, drop};
-ghost use Rattle.tns_program.specs.Pieces.{Within};
+ghost use Rattle.tns_program.specs.Pieces.{ReadAfter};
 
 // The descriptor that the launcher opens for a program to say that something failed.
 const LAUNCHER: i32 = 3;
@@ -25,8 +25,7 @@ fn failed(what: &[u8]) {
 // One read of standard input, into `piece` after its first `held` bytes, which it leaves alone. A
 // failure is said at once.
 pub fn read_after(piece: &mut [u8], held: usize) -> Read
-    ensures within { λ r. ⌜ Within held (length (now (piece .exit))) r ⌝ }
-    ensures held { λ _. ⌜ take held (now (piece .exit)) ≡ take held (now (piece .entry)) ⌝ }
+    ensures { λ r. ⌜ ReadAfter held (now (piece .entry)) (now (piece .exit)) r ⌝ }
 {
     if held >= piece.len() {
         return Read::End;

@@ -3,7 +3,7 @@ use mathlib.Core.Path.{_≡_, refl, _∙_}
 use mathlib.Core.Bool.{cond}
 use mathlib.Core.List.{List}
 use Prim.Native.Nat.{ℕ, _+_, _-_, _<_}
-use native.Mathlib.Decide.{decLt, ℕ-discrete}
+use native.Mathlib.Decide.{ℕ-discrete}
 use native.Mathlib.Omega.{arith}
 use lib.Dec.{eqb, ltb}
 use borrow.Author.Tests.{lt-ltb, le-ltb, eq-eqb, ne-eqb}
@@ -12,6 +12,7 @@ use lib.ListN.{length, set, replicate, getD-replicate}
 use lib.Seq.{getD-set-same, getD-set-other}
 use Rattle.tns_rounding.specs.Floats.{_⊕_, _⊗_, f0, f1}
 use Rattle.tns_lists.specs.Places.{at}
+use Rattle.tns_lists.proofs.Tab.{elsewhere}
 use Rattle.tns_recursion.specs.Recursion.{rowCell}
 
 module _ (last : List Float) (rc : Float) (k : ℕ) where
@@ -36,10 +37,7 @@ module _ (last : List Float) (rc : Float) (k : ℕ) where
   row-here n p = rw (ne-eqb n 0 (omega arith), lt-ltb n (n + 1) (omega arith))
 
   pub row-elsewhere : (n j : ℕ) → (j ≡ n → ⊥) → rowTo (n + 1) j ≡ rowTo n j
-  row-elsewhere n j d = elim (decLt j n) [
-    | yes below ↦ rw (lt-ltb j n below, lt-ltb j (n + 1) (omega arith))
-    | no above ↦ rw (le-ltb j n (omega arith), le-ltb j (n + 1) (omega arith))
-  ]
+  row-elsewhere n j d = rw (elsewhere n j d)
 
   pub row-end : (j : ℕ) → rowTo k j ≡ rowCell last rc k j
   row-end j = refl

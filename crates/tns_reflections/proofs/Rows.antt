@@ -11,6 +11,7 @@ use lib.Ieee.{Float, nan}
 use lib.ListN.{replicate, getD-replicate}
 use Rattle.tns_rounding.specs.Floats.{_⊖_, _⊗_, _⊘_, f0, f1}
 use Rattle.tns_lists.specs.Places.{at}
+use Rattle.tns_lists.proofs.Tab.{elsewhere}
 
 module _ (row : List Float) (k : ℕ) where
   abbrev pub belowTo : ℕ → ℕ → Float
@@ -29,7 +30,4 @@ module _ (row : List Float) (k : ℕ) where
   below-here n p = rw (lt-ltb 0 n p, lt-ltb n (n + 1) (omega arith))
 
   pub below-elsewhere : (n j : ℕ) → (j ≡ n → ⊥) → belowTo (n + 1) j ≡ belowTo n j
-  below-elsewhere n j d = elim (decLt j n) [
-    | yes below ↦ rw (lt-ltb j n below, lt-ltb j (n + 1) (omega arith))
-    | no above ↦ rw (le-ltb j n (omega arith), le-ltb j (n + 1) (omega arith))
-  ]
+  below-elsewhere n j d = rw (elsewhere n j d)

@@ -101,35 +101,25 @@ notBefore firstLine band = eqb (band .stop) 0 || leb firstLine (band .start)
 apartIn : List ℕ → Bool
 apartIn row = leb (bandFrom 0 row .stop) (bandFrom 4 row .start) || leb (bandFrom 4 row .stop) (bandFrom 0 row .start)
 
--- neither band starts early, and the two are apart
-laidOut : ℕ → List ℕ → Bool
-laidOut firstLine row =
-    (notBefore firstLine (bandFrom 0 row) && notBefore firstLine (bandFrom 4 row))
-    && apartIn row
-
-all-laid-out : (d : Duration) → every (laidOut (numbersOf d .firstLine)) (rowsOf d) ≡ true
-unfolding laidOut notBefore apartIn
-all-laid-out Ten = refl
-all-laid-out SevenPointFive = refl
-
-none-laid-out : (d : Duration) → laidOut (numbersOf d .firstLine) [] ≡ true
-unfolding laidOut notBefore apartIn
-none-laid-out Ten = refl
-none-laid-out SevenPointFive = refl
-
 -- the first band starts no later than the duration's first line
 startsBy : ℕ → List ℕ → Bool
 startsBy firstLine row = leb (bandFrom 0 row .start) firstLine
 
-all-start-by : (d : Duration) → every (startsBy (numbersOf d .firstLine)) (rowsOf d) ≡ true
-unfolding startsBy
-all-start-by Ten = refl
-all-start-by SevenPointFive = refl
+-- neither band starts early, the two are apart, and the first does not start late
+laidOut : ℕ → List ℕ → Bool
+laidOut firstLine row =
+    (notBefore firstLine (bandFrom 0 row) && notBefore firstLine (bandFrom 4 row))
+    && (apartIn row && startsBy firstLine row)
 
-none-start-by : (d : Duration) → startsBy (numbersOf d .firstLine) [] ≡ true
-unfolding startsBy
-none-start-by Ten = refl
-none-start-by SevenPointFive = refl
+all-laid-out : (d : Duration) → every (laidOut (numbersOf d .firstLine)) (rowsOf d) ≡ true
+unfolding laidOut notBefore apartIn startsBy
+all-laid-out Ten = refl
+all-laid-out SevenPointFive = refl
+
+none-laid-out : (d : Duration) → laidOut (numbersOf d .firstLine) [] ≡ true
+unfolding laidOut notBefore apartIn startsBy
+none-laid-out Ten = refl
+none-laid-out SevenPointFive = refl
 
 either : (a b : Bool) → a || b ≡ true → (a ≡ true) ⊎ (b ≡ true)
 either true b e = inl refl
@@ -141,6 +131,12 @@ not-before-outside firstLine band i e h =
     ⊎-elim (λ none. inr (omega (arith, eqb-true (band .stop) 0 none))) (λ late. inl (omega (arith, leb-true firstLine (band .start) late)))
     (either (eqb (band .stop) 0) (leb firstLine (band .start)) e)
 
+all-four : (a b c e : Bool) → (a && b) && (c && e) ≡ true → (a ≡ true) × (b ≡ true) × (c ≡ true) × (e ≡ true)
+all-four a b c e h =
+    let first = and-left (a && b) (c && e) h in
+    let second = and-right (a && b) (c && e) h in
+    (and-left a b first, and-right a b first, and-left c e second, and-right c e second)
+
 module _ (d : Duration) (bandwidth : ℕ) where
   numbers : List ℕ
   numbers = getD (rowsOf d) bandwidth []
@@ -149,28 +145,22 @@ module _ (d : Duration) (bandwidth : ℕ) where
   unfolding numbers
   laid-out = every-at (laidOut (numbersOf d .firstLine)) (rowsOf d) (all-laid-out d) [] (none-laid-out d) bandwidth
 
-  early-fit : (notBefore (numbersOf d .firstLine) (bandFrom 0 numbers) ≡ true) × (notBefore (numbersOf d .firstLine) (bandFrom 4 numbers) ≡ true)
+  each : (notBefore (numbersOf d .firstLine) (bandFrom 0 numbers) ≡ true) × (notBefore (numbersOf d .firstLine) (bandFrom 4 numbers) ≡ true)
+      × (apartIn numbers ≡ true) × (startsBy (numbersOf d .firstLine) numbers ≡ true)
   unfolding laidOut
-  early-fit =
-      let first = notBefore (numbersOf d .firstLine) (bandFrom 0 numbers) in
-      let second = notBefore (numbersOf d .firstLine) (bandFrom 4 numbers) in
-      let both-fit = and-left (first && second) (apartIn numbers) laid-out in
-      (and-left first second both-fit, and-right first second both-fit)
+  each =
+      all-four (notBefore (numbersOf d .firstLine) (bandFrom 0 numbers)) (notBefore (numbersOf d .firstLine) (bandFrom 4 numbers)) (apartIn numbers)
+      (startsBy (numbersOf d .firstLine) numbers) laid-out
 
   pub row-apart : Apart (rowOf d bandwidth .first) (rowOf d bandwidth .second)
-  unfolding rowOf laidOut numbers apartIn
-  row-apart =
-      let first = bandFrom 0 numbers in
-      let second = bandFrom 4 numbers in
-      ⊎-elim (λ e. inl (leb-true _ _ e)) (λ e. inr (leb-true _ _ e))
-      (either (leb (first .stop) (second .start)) (leb (second .stop) (first .start))
-      (and-right (notBefore (numbersOf d .firstLine) first && notBefore (numbersOf d .firstLine) second) (apartIn numbers) laid-out))
+  unfolding rowOf numbers apartIn
+  row-apart = ⊎-elim (λ e. inl (leb-true _ _ e)) (λ e. inr (leb-true _ _ e)) (either _ _ (each .2))
 
   -- no band reaches before the duration's first line
   pub early-outside : (k i : ℕ) → i < numbersOf d .firstLine → Outside (bandOf (rowOf d bandwidth) k) i
   unfolding rowOf numbers
-  early-outside zero i h = not-before-outside (numbersOf d .firstLine) (bandFrom 0 numbers) i (early-fit .0) h
-  early-outside (suc zero) i h = not-before-outside (numbersOf d .firstLine) (bandFrom 4 numbers) i (early-fit .1) h
+  early-outside zero i h = not-before-outside (numbersOf d .firstLine) (bandFrom 0 numbers) i (each .0) h
+  early-outside (suc zero) i h = not-before-outside (numbersOf d .firstLine) (bandFrom 4 numbers) i (each .1) h
   early-outside (suc (suc k)) i h = inr (omega arith)
 
   -- nor past the row's last stop
@@ -180,8 +170,8 @@ module _ (d : Duration) (bandwidth : ℕ) where
   late-outside (suc (suc k)) i h = inr (omega arith)
 
   first-by : rowOf d bandwidth .first .start ≤ numbersOf d .firstLine
-  unfolding rowOf startsBy
-  first-by = leb-true _ _ (every-at (startsBy (numbersOf d .firstLine)) (rowsOf d) (all-start-by d) [] (none-start-by d) bandwidth)
+  unfolding rowOf numbers startsBy
+  first-by = leb-true _ _ (each .3)
 
   -- so a line of either band lies from the first band's start to the last band's end
   pub in-row : (k i : ℕ) → bandOf (rowOf d bandwidth) k .start ≤ i → i < bandOf (rowOf d bandwidth) k .stop

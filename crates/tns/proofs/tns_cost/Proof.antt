@@ -16,12 +16,12 @@ use Rattle.tns.proofs.tns_cost.Tie as tie
 costs : (c : tie.After-answer) →
     let g = c .before .before .before .before .before .args in
     accepted (c .answer .given .0 .0) ≡ costOf (g .weighting) (g .filters) (g .orders .now) (g .indices .now)
-costs c = sym (ap costSays (c .answer .given .1)) ∙ c .before .before .cost .ensures .0
+costs c = sym (ap costSays (c .answer .given .1)) ∙ c .before .before .cost .ensures .answer
 
 said : (c : tie.After-answer2) →
     let g = c .before .before .before .before .before .args in
     refused (says (c .answer2 .given .0 .0)) ≡ costOf (g .weighting) (g .filters) (g .orders .now) (g .indices .now)
-said c = sym (ap costSays (c .answer2 .given .1)) ∙ c .before .before .cost .ensures .0
+said c = sym (ap costSays (c .answer2 .given .1)) ∙ c .before .before .cost .ensures .answer
 
 refused-requires : tie.Need-refused-requires
 refused-requires c κs =

@@ -14,12 +14,12 @@ use Rattle.tns.proofs.tns_decode.Tie as tie
 said : (c : tie.After-answer) →
     let g = c .before .before .before .before .before .before .before .before .before .args in
     refused (says (c .answer .given .0 .0)) ≡ decodeChecks (g .duration) (g .bandwidth) (g .filters) (g .orders .now) (g .indices .now) (length (g .lines .now))
-said c = sym (ap decodeSays (c .answer .given .1)) ∙ c .before .before .before .before .decode .ensures .0
+said c = sym (ap decodeSays (c .answer .given .1)) ∙ c .before .before .before .before .decode .ensures .answer
 
 decoded : (c : tie.After-enum-told) →
     let g = c .before .before .before .before .before .before .before .before .before .args in
     noFault ≡ decodeChecks (g .duration) (g .bandwidth) (g .filters) (g .orders .now) (g .indices .now) (length (g .lines .now))
-decoded c = sym (ap decodeSays (c .enum-told .given .1)) ∙ c .before .before .before .before .decode .ensures .0
+decoded c = sym (ap decodeSays (c .enum-told .given .1)) ∙ c .before .before .before .before .decode .ensures .answer
 
 refused-requires : tie.Need-refused-requires
 refused-requires c κs =
@@ -29,11 +29,11 @@ refused-requires c κs =
 
 returns : tie.Need-returns
 returns c =
-    (c .accepted .ensures ∙ ap (answerFor noBits) (decoded (c .before)), c .before .before .before .before .before .decode .ensures .1)
+    (c .accepted .ensures ∙ ap (answerFor noBits) (decoded (c .before)), c .before .before .before .before .before .decode .ensures .lines)
 
 returns-2 : tie.Need-returns-2
 returns-2 c =
-    (c .refused .ensures ∙ ap (answerFor noBits) (said (c .before .before)), c .before .before .before .before .before .before .decode .ensures .1)
+    (c .refused .ensures ∙ ap (answerFor noBits) (said (c .before .before)), c .before .before .before .before .before .before .decode .ensures .lines)
 
 pub tns-decode-spec : {M : Type 1} → statement M
 tns-decode-spec =

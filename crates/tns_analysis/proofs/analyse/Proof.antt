@@ -13,13 +13,18 @@ use Rattle.tns_lags.specs.Autocorrelation.{autocorrelation}
 use Rattle.tns_recursion.specs.Recursion.{predicted}
 use Rattle.tns_recursion.specs.Gain.{gainRecord}
 use Rattle.tns_reflections.specs.Reflections.{damped, reflections}
-use Rattle.tns_analysis.specs.Analysis.{filterRecord, reflectionsOf}
+use Rattle.tns_analysis.specs.Analysis.{filterRecord, reflectionsOf, analysedOf}
+use Rattle.tns_analysis.specs.declared.Analysed.{Analysed}
 use Rattle.tns_recursion.specs.declared.gain.FilterGain.{FilterGain}
 use Rattle.tns_recursion.specs.declared.recursion.Predictor.{Predictor}
 use Rattle.tns_analysis.proofs.analyse.Statement.{statement}
 use Rattle.tns_analysis.proofs.analyse.Tie as tie
 
 module _ (b : Band) (lines : List Float) (flag : Bool) (weighting : ℕ) where
+  both : (g : FilterGain) (x : List Float) → g ≡ filterRecord b lines flag weighting → x ≡ reflectionsOf b lines flag weighting
+      → _≡_ {A = Analysed} (record { gain = g; reflections = x }) (analysedOf b lines flag weighting)
+  both g x eg ex = rw (eg, ex)
+
   record-is : (r : List Float) (p : Predictor) (g : FilterGain) → r ≡ autocorrelation b lines → p ≡ predicted r 8
       → g ≡ gainRecord (at r 0) (p .error) flag weighting → g ≡ filterRecord b lines flag weighting
   unfolding filterRecord
@@ -45,11 +50,10 @@ returns c =
     let p = predicting .predict .result in
     let er = lagged .autocorrelated .ensures in
     let ep = predicting .predict .ensures in
-    let eg = record-is (g .band) xs (g .flag) (g .weighting) (lagged .autocorrelated .result) p (gained .gain-record .result) er ep (gained .gain-record .ensures) in (
-      eg,
-      on-is (g .band) xs (g .flag) (g .weighting) p (gained .gain-record .result) (c .reflected-row .result) eg (ep ∙ ap (λ (r : List Float). predicted r 8) er) (damping .before .before .if1 .taken)
-          (c .reflected-row .ensures ∙ ap reflections (damping .damped-row .ensures)),
-    )
+    let eg = record-is (g .band) xs (g .flag) (g .weighting) (lagged .autocorrelated .result) p (gained .gain-record .result) er ep (gained .gain-record .ensures) in
+    both (g .band) xs (g .flag) (g .weighting) (gained .gain-record .result) (c .reflected-row .result) eg
+    (on-is (g .band) xs (g .flag) (g .weighting) p (gained .gain-record .result) (c .reflected-row .result) eg (ep ∙ ap (λ (r : List Float). predicted r 8) er)
+    (damping .before .before .if1 .taken) (c .reflected-row .ensures ∙ ap reflections (damping .damped-row .ensures)))
 
 returns-2 : tie.Need-returns-2
 returns-2 c =
@@ -61,7 +65,8 @@ returns-2 c =
     let eg = record-is (g .band) xs (g .flag) (g .weighting) (lagged .autocorrelated .result) (predicting .predict .result) (gained .gain-record .result)
     (lagged .autocorrelated .ensures) (predicting .predict .ensures) (gained .gain-record .ensures)
     in
-    (eg, off-is (g .band) xs (g .flag) (g .weighting) (gained .gain-record .result) eg (c .if1 .left))
+    both (g .band) xs (g .flag) (g .weighting) (gained .gain-record .result) (replicate 8 f0) eg
+    (off-is (g .band) xs (g .flag) (g .weighting) (gained .gain-record .result) eg (c .if1 .left))
 
 pub analyse-spec : {M : Type 1} → statement M
 analyse-spec =

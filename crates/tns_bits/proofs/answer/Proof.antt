@@ -6,7 +6,7 @@ use Rattle.tns_bits.proofs.answer.Statement.{statement}
 use Rattle.tns_bits.proofs.answer.Tie as tie
 
 returns : tie.Need-returns
-returns c = ((refl, omega arith), c .before .before .keep .ensures (omega arith))
+returns c = record { next-frame = refl; so-many = omega arith; stays = c .before .before .keep .ensures (omega arith) }
 
 pub answer-spec : {M : Type 1} → statement M
 answer-spec =

@@ -16,7 +16,7 @@ read-within : (c : tie.After-got) →
 read-within c =
     let called = c .before .before .before .before in
     subst (λ (r : Read). Within (called .before .before .before .before .args .standing .held) (length (called .read-after .last .0)) r) (c .got .given .1)
-    (called .read-after .ensures .0)
+    (called .read-after .ensures .within)
 
 add-answer : tie.Need-add-answer
 add-answer c = omega (arith, read-within (c .before .before) .1)
@@ -28,7 +28,7 @@ returns : tie.Need-returns
 returns c =
     let answered = c .before .before .before .before in
     let within = read-within (answered .before .before .before .before) .1 in
-    (omega (arith, within, answered .answer .ensures .0 .0), omega (arith, answered .answer .ensures .0 .1))
+    (omega (arith, within, answered .answer .ensures .next-frame), omega (arith, answered .answer .ensures .so-many))
 
 pub piece-spec : {M : Type 1} → statement M
 piece-spec =

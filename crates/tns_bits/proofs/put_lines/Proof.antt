@@ -46,7 +46,10 @@ returns c =
     let l = c .before .loop in
     let g = c .before .before .before .before .args in
     let all : l .k ≡ g .count = omega arith in
-    (l .inv .3 .counts, l .inv .3 .bytes ∙ all-lines (length (g .out .now)) (g .frame) (g .bytes .now) (l .k) (omega arith) ∙ ap (linesText (g .frame) (g .bytes .now)) all)
+    record {
+      counts = l .inv .3 .counts;
+      lines = l .inv .3 .bytes ∙ all-lines (length (g .out .now)) (g .frame) (g .bytes .now) (l .k) (omega arith) ∙ ap (linesText (g .frame) (g .bytes .now)) all;
+    }
 
 pub put-lines-spec : {M : Type 1} → statement M
 put-lines-spec =

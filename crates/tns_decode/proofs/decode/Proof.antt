@@ -40,7 +40,7 @@ returns c =
     let e = frame-refused (g .duration) (g .bandwidth) (g .filters) (g .orders .now) (g .indices .now) (length (g .lines .now)) why
     (sym (ap frameSays (c .before .frame .given .1)) ∙ c .before .before .before .check-frame .ensures)
     in
-    (e, refused-spectrum (g .duration) (g .bandwidth) (g .filters) (g .orders .now) (g .indices .now) (g .lines .now) why e)
+    record { answer = e; lines = refused-spectrum (g .duration) (g .bandwidth) (g .filters) (g .orders .now) (g .indices .now) (g .lines .now) why e }
 
 returns-2 : tie.Need-returns-2
 returns-2 c =
@@ -49,7 +49,7 @@ returns-2 c =
     let why = says (c .before .side .given .0 .0) in
     let rest = frame-passed (g .duration) (g .bandwidth) (g .filters) (g .orders .now) (g .indices .now) (length (g .lines .now)) (frame .frame2 .given .0 .0) (passed frame) in
     let e = sym (ap sideSays (c .before .side .given .1)) ∙ c .before .before .before .check-side .ensures ∙ sym (rest .1) in
-    (e, refused-spectrum (g .duration) (g .bandwidth) (g .filters) (g .orders .now) (g .indices .now) (g .lines .now) why e)
+    record { answer = e; lines = refused-spectrum (g .duration) (g .bandwidth) (g .filters) (g .orders .now) (g .indices .now) (g .lines .now) why e }
 
 returns-3 : tie.Need-returns-3
 returns-3 c =
@@ -57,12 +57,14 @@ returns-3 c =
     let frame = told .before .before .before .before in
     let g = frame .before .before .before .before .before .before .args in
     let rest = frame-passed (g .duration) (g .bandwidth) (g .filters) (g .orders .now) (g .indices .now) (length (g .lines .now)) (frame .frame2 .given .0 .0) (passed frame) in
-    let e = side-passed told ∙ sym (rest .1) in (
-      e,
-      c .before .before .row-decoded .ensures
+    let e = side-passed told ∙ sym (rest .1) in
+    record {
+      answer = e;
+      lines =
+          c .before .before .row-decoded .ensures
           ∙ ap (λ (row : Row). rowDecoded row (g .filters) (g .orders .now) (g .indices .now) (g .lines .now)) (rest .0)
-          ∙ accepted-spectrum (g .duration) (g .bandwidth) (g .filters) (g .orders .now) (g .indices .now) (g .lines .now) e,
-    )
+          ∙ accepted-spectrum (g .duration) (g .bandwidth) (g .filters) (g .orders .now) (g .indices .now) (g .lines .now) e;
+    }
 
 pub decode-spec : {M : Type 1} → statement M
 decode-spec =

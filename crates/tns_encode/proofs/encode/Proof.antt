@@ -11,7 +11,8 @@ use Rattle.tns_rows.proofs.Bands.{SoundRow}
 use Rattle.tns_frames.specs.Frames.{frameOf, frameSays}
 use Rattle.tns_frames.proofs.Frames.{sound-row}
 use Rattle.tns_analysis.specs.FrameSide.{sideOf}
-use Rattle.tns_encode.specs.Encoder.{weightingIn}
+use Rattle.tns_encode.specs.Encoder.{weightingIn, encodeSays}
+use Rattle.tns_encode.specs.declared.Encoded.{Encoded}
 use Rattle.tns_encode.proofs.Frames.{refused-frame, accepted-frame, encodes-refused, encodes-accepted}
 use Rattle.tns_encode.proofs.NearFrames.{frame-near}
 use Rattle.tns_encode.proofs.Reported.{reported-bits-at-most}
@@ -37,7 +38,7 @@ returns c =
     let why = says (frame .frame .given .0 .0) in
     let v = refused-frame (g .duration) (g .bandwidth) (g .nbits) (g .flag) (g .lines .now) why (sym (ap frameSays (frame .frame .given .1)) ∙ frame .before .before .check-frame .ensures)
     in
-    rw v (encodes-refused why _ (g .lines .now) (c .refused .result) (c .refused .ensures .0) (c .refused .ensures .1))
+    rw v (encodes-refused why _ (g .lines .now) (c .refused .result) (ap (λ (r : Encoded). encodeSays (r .answer)) (c .refused .ensures)) (ap (λ (r : Encoded). r .side) (c .refused .ensures)))
 
 returns-2 : tie.Need-returns-2
 returns-2 c =
@@ -59,7 +60,7 @@ returns-2 c =
     in
     let promised = encoded .row-encoded .ensures in
     rw (call .1)
-    (encodes-accepted row own (g .flag) (weighed .lpc-weighting .result) weighting xs _ (encoded .row-encoded .result) (call .0) w (promised .0) (promised .1 .0) (promised .1 .1)
+    (encodes-accepted row own (g .flag) (weighed .lpc-weighting .result) weighting xs _ (encoded .row-encoded .result) (call .0) w (promised .answer) (promised .side) (promised .lines)
     (frame-near (durationOf (g .duration)) (g .bandwidth) (g .flag) weighting xs sound (frame .before .before .before .slice-known .given))
     (reported-bits-at-most own xs (g .flag) weighting))
 

@@ -4,6 +4,7 @@ use borrow.Author.Needs.{needs}
 use Rattle.tns_refusals.specs.Refusals.{accepted}
 use Rattle.tns_side.specs.declared.SideData.{SideData}
 use Rattle.tns_exact.specs.SideFilters.{filteredBy}
+use Rattle.tns_analysis.specs.declared.frame.Found.{Found}
 use Rattle.tns_side.specs.Limits.{Reported}
 use Rattle.tns_analysis.proofs.Limits.{side-reported}
 use Rattle.tns_encode.proofs.row_encoded.Statement.{statement}
@@ -14,17 +15,19 @@ two-encoded-requires c κs =
     let found = c .before .before in
     let start = found .before .before .before in
     let g = start .args in
-    (start .pre, subst Reported (sym (found .analyse-frame .ensures .0)) (side-reported (g .row) (g .lines .now) (g .flag) (g .weighting)))
+    (start .pre, subst Reported (sym (ap (λ (f : Found). f .side) (found .analyse-frame .ensures))) (side-reported (g .row) (g .lines .now) (g .flag) (g .weighting)))
 
 returns : tie.Need-returns
 returns c =
     let filtering = c .before .before in
     let found = filtering .before .before .before in
     let g = found .before .before .before .args in
-    let e = found .analyse-frame .ensures .0 in (
-      ap accepted (found .analyse-frame .ensures .1),
-      (e, filtering .two-encoded .ensures ∙ ap (λ (side : SideData). filteredBy side (g .row) (g .lines .now)) e),
-    )
+    let e = ap (λ (f : Found). f .side) (found .analyse-frame .ensures) in
+    record {
+      answer = ap (λ (f : Found). accepted (f .bits)) (found .analyse-frame .ensures);
+      side = e;
+      lines = filtering .two-encoded .ensures ∙ ap (λ (side : SideData). filteredBy side (g .row) (g .lines .now)) e;
+    }
 
 pub row-encoded-spec : {M : Type 1} → statement M
 row-encoded-spec = tie.close (tie.spec (λ c κs. search needs) two-encoded-requires (λ c. search needs) returns)

@@ -35,13 +35,12 @@ returns : tie.Need-returns
 returns c =
     let lines = c .before .before .before .args .lines in
     let band = c .before .asked-band .result in
-    let same = c .before .asked-band .ensures in (
-      ap (λ (b : Band). inside b (lines .now)) same,
-      (
-        ap (λ (offset : ℕ). (lines .ptr .0, offset)) (omega (arith, ap (λ (b : Band). b .start) same)),
-        inside-length band (lines .now) (fits (c .before)) ∙ ap linesOf same,
-      ),
-    )
+    let same = c .before .asked-band .ensures in
+    record {
+      lines = ap (λ (b : Band). inside b (lines .now)) same;
+      begins = ap (λ (offset : ℕ). (lines .ptr .0, offset)) (omega (arith, ap (λ (b : Band). b .start) same));
+      count = inside-length band (lines .now) (fits (c .before)) ∙ ap linesOf same;
+    }
 
 pub band-lines-spec : {M : Type 1} → statement M
 band-lines-spec =

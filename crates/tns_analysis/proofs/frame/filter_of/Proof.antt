@@ -11,6 +11,7 @@ use Rattle.tns_rounding.specs.Floats.{f0}
 use Rattle.tns_index.specs.Quantizer.{indexOf, coefficientOf, orderOf, orderFrom, notAbove}
 use Rattle.tns_analysis.specs.Analysis.{filterRecord, reflectionsOf}
 use Rattle.tns_recursion.specs.declared.gain.FilterGain.{FilterGain}
+use Rattle.tns_analysis.specs.declared.Analysed.{Analysed}
 use Rattle.tns_side.specs.Quantized.{quantizedOf, absent}
 use Rattle.tns_analysis.specs.FrameSide.{filterOf}
 use Rattle.tns_analysis.proofs.frame.filter_of.Statement.{statement}
@@ -27,14 +28,14 @@ off-is b lines flag weighting g eg off = rw (← eg, off) zeros-absent
 
 returns : tie.Need-returns
 unfolding filterOf
-returns c = c .quantize-all .ensures ∙ ap quantizedOf (c .before .before .before .analyse .ensures .1)
+returns c = c .quantize-all .ensures ∙ ap quantizedOf (ap (λ (a : Analysed). a .reflections) (c .before .before .before .analyse .ensures))
 
 returns-2 : tie.Need-returns-2
 unfolding filterOf
 returns-2 c =
     let found = c .before .before in
     let g = found .before .before .args in
-    c .none .ensures ∙ off-is (g .band) (g .lines .now) (g .flag) (g .weighting) (found .analyse .result .gain) (found .analyse .ensures .0) (c .before .if1 .left)
+    c .none .ensures ∙ off-is (g .band) (g .lines .now) (g .flag) (g .weighting) (found .analyse .result .gain) (ap (λ (a : Analysed). a .gain) (found .analyse .ensures)) (c .before .if1 .left)
 
 pub filter-of-spec : {M : Type 1} → statement M
 filter-of-spec =

@@ -33,13 +33,13 @@ returns : tie.Need-returns
 returns c =
     let first = c .before .before in
     let start = first .before .before .before .before in
-    first .filter-bits .ensures .0 ∙ one-filter (start .args .side) (start .pre) (c .if1 .taken)
+    first .filter-bits .ensures .bits ∙ one-filter (start .args .side) (start .pre) (c .if1 .taken)
 
 add-result : tie.Need-add-result
 add-result c =
     let first = c .before .before .before .before .before .before in
     let start = first .before .before .before .before in
-    omega (arith, first .filter-bits .ensures .1 (start .pre .first .order-at-most-8), c .filter-bits2 .ensures .1 (start .pre .second .order-at-most-8))
+    omega (arith, first .filter-bits .ensures .few (start .pre .first .order-at-most-8), c .filter-bits2 .ensures .few (start .pre .second .order-at-most-8))
 
 returns-2 : tie.Need-returns-2
 returns-2 c =
@@ -47,8 +47,8 @@ returns-2 c =
     let start = first .before .before .before .before in
     omega (
       arith,
-      first .filter-bits .ensures .0,
-      c .filter-bits2 .ensures .0,
+      first .filter-bits .ensures .bits,
+      c .filter-bits2 .ensures .bits,
       two-filters (start .args .side) (start .pre) (c .before .before .before .before .if1 .left),
     )
 

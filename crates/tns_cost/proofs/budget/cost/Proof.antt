@@ -6,7 +6,7 @@ use borrow.Author.Needs.{needs}
 use borrow.Author.Tests.{lt-ltb, le-ltb}
 use lib.Dec.{ltb}
 use Rattle.tns_refusals.specs.Refusals.{numbered, Verdict, accepted, noFault, refused, bitsIn, itsBits, says, check, sideChecks, sideSays}
-use Rattle.tns_cost.specs.Cost.{costOf, costSays, countedBits}
+use Rattle.tns_cost.specs.Cost.{costOf, costSays, countedBits, Priced}
 use Rattle.tns_refusals.specs.declared.Refusal.{Refusal}
 use Rattle.tns_refusals.specs.declared.Refusal.the-variants.{Weighting}
 use Rattle.tns_cost.specs.declared.budget.CostAnswer.{CostAnswer}
@@ -41,9 +41,9 @@ fine-at c = sym (ap sideSays (c .enum-told .given .1)) ∙ c .before .before .ch
 
 -- a result that says what the definition does has at most 168 bits
 few : (answer : CostAnswer) (weighting filters : ℕ) (orders indices : List ℕ) → costSays answer ≡ costOf weighting filters orders indices
-    → (costSays answer ≡ costOf weighting filters orders indices) × (bitsIn itsBits (costSays answer) ≤ 168)
+    → Priced (costOf weighting filters orders indices) answer
 few answer weighting filters orders indices e =
-    (e, subst (λ (v : Verdict ℕ). bitsIn itsBits v ≤ 168) (sym e) (cost-at-most weighting filters orders indices))
+    record { answer = e; few = subst (λ (v : Verdict ℕ). bitsIn itsBits v ≤ 168) (sym e) (cost-at-most weighting filters orders indices) }
 
 returns : tie.Need-returns
 returns c =

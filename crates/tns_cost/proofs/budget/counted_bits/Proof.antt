@@ -18,7 +18,7 @@ returns-2 : tie.Need-returns-2
 returns-2 c =
     let start = c .before .before .before .before .before .before .before in
     let g = start .args in
-    c .before .filter-bits .ensures .0 ∙ sym (rw (c .if2 .taken) (one-counted (g .weighting) (g .orders .now) (g .indices .now) (start .pre .two-orders)))
+    c .before .filter-bits .ensures .bits ∙ sym (rw (c .if2 .taken) (one-counted (g .weighting) (g .orders .now) (g .indices .now) (start .pre .two-orders)))
 
 add-result : tie.Need-add-result
 add-result c =
@@ -26,7 +26,7 @@ add-result c =
     let start = c .before .before .before .before .before .before .before .before .before .before in
     let os = start .args .orders .now in
     let fine = none-over 8 0 os (start .pre .orders-at-most-8) in
-    omega (arith, first .ensures .1 (fine 0), c .filter-bits2 .ensures .1 (fine 1))
+    omega (arith, first .ensures .few (fine 0), c .filter-bits2 .ensures .few (fine 1))
 
 returns-3 : tie.Need-returns-3
 returns-3 c =
@@ -38,7 +38,7 @@ returns-3 c =
     ≡ filterBits (g .weighting) (getD (g .orders .now) 0 0) (take 8 (g .indices .now)) + filterBits (g .weighting) (getD (g .orders .now) 1 0) (take 8 (drop 8 (g .indices .now))) =
     rw both (two-counted (g .weighting) (g .orders .now) (g .indices .now) (start .pre .two-orders))
     in
-    omega (arith, first .ensures .0, c .filter-bits2 .ensures .0, counted)
+    omega (arith, first .ensures .bits, c .filter-bits2 .ensures .bits, counted)
 
 pub counted-bits-spec : {M : Type 1} → statement M
 counted-bits-spec =

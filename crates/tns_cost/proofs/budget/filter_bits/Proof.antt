@@ -24,10 +24,11 @@ add-result-2 c =
 returns : tie.Need-returns
 unfolding filterBits
 returns c =
-    let g = c .before .before .args in (
-      omega (arith, c .filter-cost .ensures),
-      λ h. omega (arith, c .filter-cost .ensures, filter-bits-at-most (g .weighting) (g .order) (g .indices .now) h),
-    )
+    let g = c .before .before .args in
+    record {
+      bits = omega (arith, c .filter-cost .ensures);
+      few = λ h. omega (arith, c .filter-cost .ensures, filter-bits-at-most (g .weighting) (g .order) (g .indices .now) h);
+    }
 
 pub filter-bits-spec : {M : Type 1} → statement M
 filter-bits-spec = tie.close (tie.spec (λ c κs. search needs) add-result cast-result add-result-2 returns)

@@ -26,7 +26,7 @@ returns c = too-few (c .before .before .args .bytes .now) (c .if1 .taken)
 returns-2 : tie.Need-returns-2
 returns-2 c =
     let else = c .before .before .before .before .before in
-    ap costs (c .cost .ensures .0) ∙ enough (else .before .before .args .bytes .now) (else .if1 .left)
+    ap costs (c .cost .ensures .answer) ∙ enough (else .before .before .args .bytes .now) (else .if1 .left)
 
 pub record-cost-spec : {M : Type 1} → statement M
 record-cost-spec =

@@ -9,7 +9,7 @@ use native.Mathlib.Omega.{arith}
 use lib.Ieee.{Float, nan}
 use lib.ListN.{getD, set}
 use Rattle.tns_rounding.specs.Floats.{_⊕_, _⊖_, _⊗_}
-use Rattle.tns_lattices.specs.DecoderLattice.{stage, stagesBelow, passing, lineDecoded}
+use Rattle.tns_lattices.specs.DecoderLattice.{stageDown, stagesBelow, passing, lineDecoded}
 use Rattle.tns_lattices.specs.declared.Passed.{Passed}
 use Rattle.tns_lattices.proofs.decoder.line_decoded.Statement.{statement}
 use Rattle.tns_lattices.proofs.decoder.line_decoded.Tie as tie
@@ -22,7 +22,7 @@ below q k t s = t ⊖ getD q (k - 1) nan ⊗ getD s (k - 1) nan
 one-stage : (q : List Float) (k : ℕ) (t : Float) (s : List Float) → 0 < k
     → stagesBelow q k (passing t s)
     ≡ stagesBelow q (k - 1) (passing (below q k t s) (set s (k - 1 + 1) (getD q (k - 1) nan ⊗ below q k t s ⊕ getD s (k - 1) nan)))
-unfolding stagesBelow stage
+unfolding stagesBelow stageDown
 one-stage q zero t s h = absurd (not-suc-le-zero h)
 one-stage q (suc k) t s h = rw (sub-one, add-one)
 

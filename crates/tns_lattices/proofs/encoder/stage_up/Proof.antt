@@ -1,11 +1,11 @@
 -- The operations are the definition's, in its order.
 use borrow.Author.Needs.{needs}
-use Rattle.tns_lattices.specs.EncoderLattice.{stage}
+use Rattle.tns_lattices.specs.EncoderLattice.{stageUp}
 use Rattle.tns_lattices.proofs.encoder.stage_up.Statement.{statement}
 use Rattle.tns_lattices.proofs.encoder.stage_up.Tie as tie
 
 returns : tie.Need-returns
-unfolding stage
+unfolding stageUp
 returns c = search needs
 
 pub stage-up-spec : {M : Type 1} → statement M

@@ -6,12 +6,12 @@ use native.Mathlib.Numerals.{add-one}
 use native.Mathlib.Omega.{arith}
 use lib.Ieee.{Float, nan}
 use lib.ListN.{getD}
-use Rattle.tns_lattices.specs.EncoderLattice.{stage, stagesTo, entering}
+use Rattle.tns_lattices.specs.EncoderLattice.{stageUp, stagesTo, entering}
 use Rattle.tns_lattices.specs.declared.encoder.Passing.{Passing}
 use Rattle.tns_lattices.proofs.encoder.stages_up.Statement.{statement}
 use Rattle.tns_lattices.proofs.encoder.stages_up.Tie as tie
 
-one-more : (q : List Float) (k : ℕ) (start p : Passing) → p ≡ stagesTo q k start → stage (getD q k nan) k p ≡ stagesTo q (k + 1) start
+one-more : (q : List Float) (k : ℕ) (start p : Passing) → p ≡ stagesTo q k start → stageUp (getD q k nan) k p ≡ stagesTo q (k + 1) start
 unfolding stagesTo
 one-more q k start p e = rw (e, add-one)
 

@@ -10,17 +10,17 @@ use Rattle.tns_program.proofs.streams.read_after.Tie as tie
 returns-2 : tie.Need-returns-2
 returns-2 c =
     let g = c .before .before .before .before .before .before .before .before .before .args in
-    (tt, held-kept (g .held) (length (g .piece .now) - g .held) (g .piece .now) (c .before .before .before .before .before .read .last .1 .0) (omega arith))
+    record { within = tt; stays = held-kept (g .held) (length (g .piece .now) - g .held) (g .piece .now) (c .before .before .before .before .before .read .last .1 .0) (omega arith) }
 
 returns-3 : tie.Need-returns-3
 returns-3 c =
     let g = c .before .before .before .before .before .before .before .before .before .before .before .args in
-    (tt, held-kept (g .held) (length (g .piece .now) - g .held) (g .piece .now) (c .before .before .before .before .before .before .before .read .last .1 .0) (omega arith))
+    record { within = tt; stays = held-kept (g .held) (length (g .piece .now) - g .held) (g .piece .now) (c .before .before .before .before .before .before .before .read .last .1 .0) (omega arith) }
 
 returns-4 : tie.Need-returns-4
 returns-4 c =
     let g = c .before .before .before .before .before .before .before .before .before .before .before .args in
-    (search needs, held-kept (g .held) (length (g .piece .now) - g .held) (g .piece .now) (c .before .before .before .before .before .before .before .read .last .1 .0) (omega arith))
+    record { within = search needs; stays = held-kept (g .held) (length (g .piece .now) - g .held) (g .piece .now) (c .before .before .before .before .before .before .before .read .last .1 .0) (omega arith) }
 
 pub read-after-spec : {M : Type 1} → statement M
 read-after-spec =

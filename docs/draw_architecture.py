@@ -1,0 +1,101 @@
+#!/usr/bin/env python3
+"""Draws docs/architecture.svg from crates.txt: the crates in their layers, and which uses which.
+
+A crate stands above all that it uses. An arrow that others imply is left out, and so are the arrows
+to the three rooms at the bottom, which nearly every crate uses. Where a crate stands from left to
+right is chosen here. Python 3's standard library alone.
+
+    docs/draw_architecture.py            writes the picture
+    docs/draw_architecture.py --check    says whether it is the one that would be written
+"""
+import sys
+from pathlib import Path
+
+DOCS = Path(__file__).resolve().parent
+PICTURE = DOCS / "architecture.svg"
+BOTTOM = ["tns_refusals", "tns_lists", "tns_rounding"]
+ACROSS = {
+    "tns_program": 0, "tns_wording": 0, "tns_bits": 0,
+    "tns_tables": 1.2, "tns_cost": 1.2, "tns_side": 2.1, "tns_index": 2.5,
+    "tns_decode": 4.1, "tns_frames": 4.3, "tns_rows": 4.6, "tns_exact": 4.95,
+    "tns_filters": 5.55, "tns_lattices": 6.0, "tns_encode": 6.3, "tns": 4.4, "replay": 4.4,
+    "tns_lags": 6.7, "tns_recursion": 7.55, "tns_analysis": 7.3, "tns_examples": 7.3, "tns_reflections": 8.55,
+}
+SAYS = {
+    "tns_refusals": "verdicts, checks 4 to 7", "tns_lists": "lists, lines in place", "tns_rounding": "f32 operations",
+    "tns_program": "reading, writing, text", "tns_wording": "a record's line", "tns_bits": "the program",
+    "tns_tables": "table T", "tns_cost": "bits, 20-byte records", "tns_side": "side data",
+    "tns_index": "index, coefficient", "tns_exact": "demand 3", "tns_rows": "durations, bands", "tns_frames": "checks 1 to 3",
+    "tns_lattices": "one band", "tns_filters": "the bands of a row", "tns_decode": "the decode call",
+    "tns_lags": "autocorrelation", "tns_recursion": "predictor, gain", "tns_reflections": "step-down", "tns_analysis": "a filter, a frame",
+    "tns_encode": "the encode call", "tns": "what C and Rust link", "tns_examples": "worked cases", "replay": "the lists",
+}
+WIDTH, HEIGHT, STEP, LEFT, TOP = 124, 38, 130, 16, 16
+ROWS = 8
+
+
+def crates():
+    lists = {}
+    for line in (DOCS.parent / "crates.txt").read_text().splitlines():
+        name, colon, rest = line.partition("#")[0].partition(":")
+        if colon:
+            lists[name.strip()] = rest.split()
+    return {n: [d for d in uses if d in lists] for n, uses in lists.items()}
+
+
+def reached(name, lists):
+    return {r for d in lists[name] for r in {d} | reached(d, lists)}
+
+
+def depth(name, lists):
+    return 1 + max(map(lambda d: depth(d, lists), lists[name])) if lists[name] else 0
+
+
+def no_code(name):
+    return not any("fn " in f.read_text() for f in (DOCS.parent / "crates" / name / "src").rglob("*.rt"))
+
+
+def svg():
+    lists = crates()
+    place = {}
+    for name in lists:
+        if name in BOTTOM:
+            place[name] = (LEFT + (2 + 2 * BOTTOM.index(name)) * STEP, TOP + (ROWS - 1) * 70)
+        else:
+            # A program's own room is drawn beside those that programs are made of.
+            up = {"tns_program": 2}.get(name, depth(name, lists))
+            place[name] = (LEFT + ACROSS[name] * STEP, TOP + (ROWS - 1 - up) * 70)
+    out = [
+        '<svg xmlns="http://www.w3.org/2000/svg" width="1268" height="562" font-family="sans-serif">',
+        '<rect width="1268" height="562" fill="white"/>',
+        '<defs><marker id="tip" viewBox="0 0 8 8" refX="8" refY="4" markerWidth="7" markerHeight="7" orient="auto">'
+        '<path d="M0,0 L8,4 L0,8 z" fill="#777"/></marker></defs>',
+    ]
+    for name, uses in lists.items():
+        for used in uses:
+            if used in BOTTOM or any(used in reached(other, lists) for other in uses if other != used):
+                continue
+            (x, y), (u, v) = place[name], place[used]
+            out.append(
+                f'<line x1="{x + WIDTH / 2:.0f}" y1="{y + HEIGHT}" x2="{u + WIDTH / 2:.0f}" y2="{v - 1}" '
+                'stroke="#777" marker-end="url(#tip)"/>'
+            )
+    for name in lists:
+        x, y = place[name]
+        dash = ' stroke-dasharray="4 3"' if no_code(name) else ""
+        out.append(f'<rect x="{x:.0f}" y="{y}" width="{WIDTH}" height="{HEIGHT}" rx="5" fill="#f2f6fb" stroke="#345"{dash}/>')
+        out.append(f'<text x="{x + WIDTH / 2:.0f}" y="{y + 16}" text-anchor="middle" font-size="13">{name}</text>')
+        out.append(f'<text x="{x + WIDTH / 2:.0f}" y="{y + 31}" text-anchor="middle" font-size="10" fill="#555">{SAYS[name]}</text>')
+    return "\n".join(out + ["</svg>", ""])
+
+
+def main():
+    if sys.argv[1:] == ["--check"]:
+        same = PICTURE.exists() and PICTURE.read_text() == svg()
+        print("architecture: the picture is " + ("that of crates.txt" if same else "NOT that of crates.txt"))
+        return 0 if same else 1
+    PICTURE.write_text(svg())
+    return 0
+
+
+sys.exit(main())
