@@ -1,0 +1,58 @@
+//! What a call answers, and the table of refusals.
+
+use crate::document::rows::Row;
+
+/// An answer as it passes to C. Place and found are 0 but for refusals 6 and 7;
+/// bits are 0 where refused and for the decoder.
+#[repr(C)]
+#[derive(Clone, Copy, Debug, PartialEq)]
+pub struct Answer {
+    pub refusal: u16,
+    pub place: u16,
+    pub found: u16,
+    pub bits: u16,
+}
+
+pub const ACCEPTED: Answer = refused(0);
+
+const fn refused(refusal: u16) -> Answer {
+    Answer {
+        refusal,
+        place: 0,
+        found: 0,
+        bits: 0,
+    }
+}
+
+/// Refusals 1 to 3.
+pub fn spectrum(duration: u8, bandwidth: u8, length: usize) -> Option<Answer> {
+    if duration > 1 {
+        return Some(refused(1));
+    }
+    let Some(row) = Row::of(duration, bandwidth) else {
+        return Some(refused(2));
+    };
+    let good = (row.last_stop()..=row.longest()).contains(&length);
+    (!good).then_some(refused(3))
+}
+
+/// The lowest place that holds more than `most`.
+fn lowest_over(refusal: u16, list: &[u8], most: u8) -> Option<Answer> {
+    let place = list.iter().position(|n| *n > most)?;
+    Some(Answer {
+        place: place as u16,
+        found: list[place] as u16,
+        ..refused(refusal)
+    })
+}
+
+/// Refusals 4 to 7.
+pub fn side(filters: u8, orders: &[u8], indices: &[u8]) -> Option<Answer> {
+    if orders.len() != 2 || indices.len() != 16 {
+        return Some(refused(4));
+    }
+    if filters > 2 {
+        return Some(refused(5));
+    }
+    lowest_over(6, orders, 8).or_else(|| lowest_over(7, indices, 16))
+}

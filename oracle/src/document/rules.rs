@@ -1,0 +1,117 @@
+//! The rules, to be compared with the original. The cost tables are T's own.
+
+use crate::document::side::Side;
+use original_std::tables::temporal_noise_shaping_tables as table;
+
+/// Start at 1, multiply by the running square wherever the exponent's bit is 1,
+/// low bit first.
+pub fn power(base: f32, exponent: usize) -> f32 {
+    let mut result = 1.0f32;
+    let mut square = base;
+    let mut rest = exponent;
+    while rest > 0 {
+        if rest & 1 == 1 {
+            result *= square;
+        }
+        square *= square;
+        rest >>= 1;
+    }
+    result
+}
+
+/// One bit per counted filter plus its cost in 2048ths, rounded up, in whole
+/// numbers. Assumes what document 01 accepts.
+pub fn cost(side: &Side) -> usize {
+    let mut bits = 0;
+    for f in 0..side.filters {
+        let order = side.orders[f];
+        let mut parts = 0;
+        if order > 0 {
+            parts += table::AC_TNS_ORDER_BITS[side.weighting as usize][order - 1];
+        }
+        for k in 0..order {
+            parts += table::AC_TNS_COEF_BITS[k][side.indices[f * 8 + k]];
+        }
+        bits += 1 + parts.div_ceil(2048);
+    }
+    bits
+}
+
+/// 8 plus, or minus for a negative x, the number of thresholds not above |x|.
+/// Takes the bit pattern of |x|, below that of 1; patterns of positive floats
+/// stand in the order of the floats.
+pub fn index(thresholds: &[u32; 8], magnitude: u32, negative: bool) -> usize {
+    let count = thresholds.iter().filter(|t| **t <= magnitude).count();
+    if negative {
+        8 - count
+    } else {
+        8 + count
+    }
+}
+
+/// The gain of the recursion over nine lags: r[0]/error, or r[0] where the error
+/// is zero.
+pub fn gain(lags: &[f32; 9]) -> f32 {
+    let mut a = [0.0f32; 9];
+    a[0] = 1.0;
+    let mut error = lags[0];
+    for k in 1..9 {
+        let before = a;
+        let mut rc = 0.0;
+        for n in 0..k {
+            rc -= before[n] * lags[k - n];
+        }
+        if error != 0.0 {
+            rc /= error;
+        }
+        for n in 1..k {
+            a[n] = before[n] + rc * before[k - n];
+        }
+        a[k] = rc;
+        error *= 1.0 - rc * rc;
+    }
+    if error == 0.0 {
+        lags[0]
+    } else {
+        lags[0] / error
+    }
+}
+
+/// The encoder's filters: for each a band, an order and eight coefficients.
+pub struct Filters<'a> {
+    pub bands: &'a [(usize, usize)],
+    pub orders: [usize; 2],
+    pub coefficients: [f32; 16],
+}
+
+impl Filters<'_> {
+    /// The coefficients of a filter, as many as its order.
+    pub fn used(&self, filter: usize) -> &[f32] {
+        &self.coefficients[8 * filter..8 * filter + self.orders[filter]]
+    }
+
+    /// The encoder's lattice in f32 over whole bands, the state carried between
+    /// them.
+    pub fn filtered(&self, before: &[f32]) -> Vec<f32> {
+        let mut lines = before.to_vec();
+        let mut state = [0.0f32; 8];
+        for (f, (start, stop)) in self.bands.iter().enumerate() {
+            let Some((last, stages)) = self.used(f).split_last() else {
+                continue;
+            };
+            for line in &mut lines[*start..*stop] {
+                let (mut t, mut b) = (*line, *line);
+                for (k, q) in stages.iter().enumerate() {
+                    let old = state[k];
+                    state[k] = b;
+                    b = q * t + old;
+                    t += q * old;
+                }
+                t += last * state[stages.len()];
+                state[stages.len()] = b;
+                *line = t;
+            }
+        }
+        lines
+    }
+}

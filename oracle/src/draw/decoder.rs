@@ -1,0 +1,43 @@
+//! Drawing decoder calls.
+
+use crate::document::calls::Decode;
+use crate::document::rows::Row;
+use crate::document::side::Side;
+use crate::draw::random::Random;
+use crate::draw::spectra::{fill, KINDS};
+use crate::draw::{lengths, side};
+
+/// A call with lines of a kind.
+pub fn of_kind(
+    random: &mut Random,
+    row: &'static Row,
+    side: Side,
+    kind: usize,
+    length: usize,
+) -> Decode {
+    let mut lines = vec![0.0; length];
+    fill(kind, random, &mut lines);
+    Decode {
+        row,
+        side,
+        kind,
+        lines,
+    }
+}
+
+/// Any call of a row; the ends of the index table, and its middle, more often.
+pub fn any(random: &mut Random, row: &'static Row) -> Decode {
+    let filters = random.one_of(&[0, 1, 1, 2, 2, 2, 2, 2]);
+    let mut side = side::any(random, filters);
+    match random.below(16) {
+        0 => side.indices = [16; 16],
+        1 => side.indices = [0; 16],
+        2 | 3 => side.indices.fill_with(|| random.one_of(&[0, 16])),
+        4..=6 => side.indices.fill_with(|| 6 + random.below(5)),
+        _ => {}
+    }
+    let which = random.below(4);
+    let length = lengths::one(random, row, which);
+    let kind = random.below(KINDS.len());
+    of_kind(random, row, side, kind, length)
+}

@@ -1,0 +1,91 @@
+//! E's answer to a call, and what document 01 says instead where it differs.
+
+use crate::document::calls::{Encode, Encoded, Outcome};
+use crate::document::rules;
+use crate::document::side::Side;
+use crate::original::build::Build;
+use crate::original::caught::caught;
+
+/// How an outcome was had.
+#[derive(Clone, Copy, PartialEq)]
+pub enum How {
+    /// E's own answer.
+    Original,
+    /// E's answer, and its lattice run on from line 200 to 240.
+    RunOn,
+    /// E panics at a coefficient of exactly 1 or -1; document 01's answer.
+    AtOne,
+}
+
+impl Build {
+    /// E's answer, or nothing if it panics.
+    pub fn encoded(&self, call: &Encode) -> Option<Outcome> {
+        let (row, bits, near) = (call.row, call.bits, call.near_nyquist);
+        let mut lines = call.lines.clone();
+        let said = caught(|| (self.encode)(row.duration, row.bandwidth, bits, near, &mut lines))?;
+        Some(Outcome { said, lines })
+    }
+
+    /// E's coefficients before they are quantized.
+    pub fn reflections(&self, call: &Encode) -> [f32; 16] {
+        let (row, near, weighting) = (call.row, call.near_nyquist, call.weighting());
+        (self.reflection)(row.duration, row.bandwidth, near, weighting, &call.lines)
+    }
+
+    /// E's gain of a filter.
+    pub fn gain(&self, call: &Encode, filter: usize) -> f32 {
+        let row = call.row;
+        rules::gain(&(self.lags)(
+            row.duration,
+            row.bandwidth,
+            filter,
+            &call.lines,
+        ))
+    }
+
+    /// The answer that the port must give, made of E's, and how it was had.
+    /// Nothing if E panics for a reason that document 01 does not know.
+    pub fn wanted(&self, call: &Encode, asked: Option<Outcome>) -> Option<(Outcome, How)> {
+        let Some(mut outcome) = asked else {
+            return Some((self.at_one(call)?, How::AtOne));
+        };
+        let row = call.row;
+        if (row.duration, row.bandwidth) != (0, 2) || !outcome.said.active() {
+            return Some((outcome, How::Original));
+        }
+        let lines = outcome.said.filters(row).filtered(&call.lines);
+        outcome.lines[200..240].copy_from_slice(&lines[200..240]);
+        Some((outcome, How::RunOn))
+    }
+
+    /// Document 01 at coefficients of exactly 1 and -1: indices 16 and 0. The
+    /// other coefficients go through E's quantization.
+    fn at_one(&self, call: &Encode) -> Option<Outcome> {
+        let reflections = self.reflections(call);
+        if !reflections.iter().any(|x| x.abs() == 1.0) {
+            return None;
+        }
+        let mut side = Side::plain(call.weighting(), 0);
+        side.filters = call.row.bands.len();
+        let mut coefficients = [0.0; 16];
+        for place in 0..8 * side.filters {
+            let x = reflections[place];
+            // The largest f32 below 1 has the same index by the threshold rule.
+            let inside = 1.0 - f32::EPSILON / 2.0;
+            let x = if x.abs() == 1.0 { x * inside } else { x };
+            let (index, coefficient) = self.quantize_one(x);
+            side.indices[place] = index;
+            coefficients[place] = f32::from_bits(coefficient);
+            if index != 8 {
+                side.orders[place / 8] = place % 8 + 1;
+            }
+        }
+        let said = Encoded {
+            bits: rules::cost(&side),
+            side,
+            coefficients,
+        };
+        let lines = said.filters(call.row).filtered(&call.lines);
+        Some(Outcome { said, lines })
+    }
+}

@@ -1,0 +1,141 @@
+//! The word `decode`: D against the port's decoder, line for line and bit by
+//! bit, where any NaN equals any other; then the refusals, and what D does with
+//! them.
+
+mod refusals;
+mod strange;
+
+use crate::compare::differing::Differing;
+use crate::compare::lines::{first_change, first_difference};
+use crate::document::calls::Decode;
+use crate::document::refusals::ACCEPTED;
+use crate::document::rows::ROWS;
+use crate::draw::decoder;
+use crate::draw::random::{say_seed, Random, SEED};
+use crate::draw::spectra::KINDS;
+use crate::original::build::{both, Build};
+use crate::port::decoder::decode;
+use crate::port::lent::Lent;
+
+const CALLS: [usize; 2] = [1_200_000, 200_000];
+
+#[derive(Default)]
+struct OfRow {
+    calls: u64,
+    shortest: u64,
+    longest: u64,
+    /// Filters that acted, by filter and order.
+    acted: [[u64; 9]; 2],
+}
+
+#[derive(Default)]
+struct Tally {
+    calls: u64,
+    differ: Differing,
+    not_accepted: u64,
+    touched: u64,
+    guards: u64,
+    moved: u64,
+    kinds: [u64; KINDS.len()],
+    rows: [OfRow; ROWS.len()],
+}
+
+impl Tally {
+    fn take(&mut self, build: &Build, call: &Decode) {
+        let Decode {
+            row, side, lines, ..
+        } = call;
+        let wanted = build.decoded(call);
+        let mut lent = Lent::new(lines);
+        let answer = decode(row, side, &mut lent);
+        let given = lent.list();
+        let length = given.len();
+        self.calls += 1;
+        self.kinds[call.kind] += 1;
+        let of_row = &mut self.rows[row.place()];
+        of_row.calls += 1;
+        of_row.shortest += u64::from(length == row.last_stop());
+        of_row.longest += u64::from(length == row.longest());
+        for filter in (0..2).filter(|f| call.acts(*f)) {
+            of_row.acted[filter][side.orders[filter]] += 1;
+        }
+        self.moved += u64::from(first_change(lines, given).is_some());
+        self.not_accepted += u64::from(answer != ACCEPTED);
+        self.guards += u64::from(!lent.guards_stand());
+        self.touched += u64::from(outside_moved(call, given));
+        let first = first_difference(&wanted, given);
+        self.differ.take(first.is_some(), || {
+            let n = first.unwrap_or(0);
+            format!(
+                "decode: {}: {} with {length} lines, {}, {side:?}: answer {answer:?}; line {n}: D {:08X}, port {:08X}",
+                build.name,
+                row.name(),
+                KINDS[call.kind],
+                wanted[n].to_bits(),
+                given[n].to_bits()
+            )
+        });
+    }
+
+    /// What was called, row by row.
+    fn print_rows(&self, name: &str) {
+        for (row, of) in ROWS.iter().zip(&self.rows) {
+            print!(
+                "decode: {name}: {}: {} calls, {} of {} lines, {} of {}; acted with order 1..8:",
+                row.name(),
+                of.calls,
+                of.shortest,
+                row.last_stop(),
+                of.longest,
+                row.longest()
+            );
+            for (filter, acted) in of.acted.iter().enumerate().take(row.bands.len()) {
+                print!(" filter {filter} {:?}", &acted[1..]);
+            }
+            println!();
+        }
+        let kinds = KINDS.iter().zip(&self.kinds);
+        let kinds: Vec<String> = kinds.map(|(kind, n)| format!("{kind} {n}")).collect();
+        println!("decode: {name}: spectra: {}", kinds.join(", "));
+    }
+
+    fn print(&self, build: &Build) -> bool {
+        println!(
+            "decode: {}: D against tns_decode: {} calls compared, {} changed a line; {} differ, {} not accepted, {} changed a line outside the acting bands, {} wrote beyond the lines",
+            build.name, self.calls, self.moved, self.differ.0, self.not_accepted, self.touched, self.guards
+        );
+        self.differ.0 + self.not_accepted + self.touched + self.guards == 0
+    }
+}
+
+/// Whether a line changed, NaN bits included, that no acting filter has.
+fn outside_moved(call: &Decode, given: &[f32]) -> bool {
+    let mut kept = vec![true; given.len()];
+    for (filter, (start, stop)) in call.row.bands.iter().enumerate() {
+        if call.acts(filter) {
+            kept[*start..*stop].fill(false);
+        }
+    }
+    (0..given.len()).any(|n| kept[n] && given[n].to_bits() != call.lines[n].to_bits())
+}
+
+pub fn run() -> bool {
+    say_seed("decode");
+    let builds = both();
+    let mut good = true;
+    for (build, calls) in builds.iter().zip(CALLS) {
+        let mut random = Random(SEED);
+        let mut tally = Tally::default();
+        for n in 0..calls {
+            let row = &ROWS[n % ROWS.len()];
+            tally.take(build, &decoder::any(&mut random, row));
+        }
+        if build.name == "std" {
+            tally.print_rows(build.name);
+        }
+        good &= tally.print(build);
+    }
+    good &= refusals::run(&builds[0]);
+    strange::run(&builds[0]);
+    good
+}

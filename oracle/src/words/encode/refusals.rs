@@ -1,0 +1,102 @@
+//! Calls that document 01 refuses, against its table; lines, side data and
+//! coefficients must stay as they were. Calls that turn out accepted are compared
+//! with E.
+
+use crate::compare::lines::first_change;
+use crate::compare::outcomes::difference;
+use crate::compare::refusals::{Tally, Words};
+use crate::document::calls::{Encode, Outcome};
+use crate::document::refusals::{spectrum, ACCEPTED};
+use crate::document::rows::{Row, ROWS};
+use crate::draw::random::{Random, SEED};
+use crate::original::build::Build;
+use crate::port::encoder::Loan;
+
+/// Draws for each set of faults and each row.
+const DRAWS: usize = 1000;
+
+fn take(tally: &mut Tally, build: &Build, random: &mut Random, at: (u8, u8, usize)) {
+    let (duration, bandwidth, length) = at;
+    let mut wanted = spectrum(duration, bandwidth, length).unwrap_or(ACCEPTED);
+    let accepted = wanted == ACCEPTED;
+    // Any bit patterns, so that an untouched NaN is seen to be untouched; noise
+    // where the call is accepted.
+    let before: Vec<f32> = (0..length)
+        .map(|_| match random.pattern() {
+            n if accepted => n as i16 as f32,
+            n => f32::from_bits(n),
+        })
+        .collect();
+    let (bits, near_nyquist) = (random.below(960) as u64, random.once_in(2));
+    let mut loan = Loan::new(&before);
+    let given = loan.ask_numbers(duration, bandwidth, bits, near_nyquist);
+    let other = match Row::of(duration, bandwidth) {
+        Some(row) if accepted => {
+            let call = Encode {
+                row,
+                bits,
+                near_nyquist,
+                kind: 0,
+                lines: before,
+            };
+            let found = Outcome {
+                said: loan.encoded(given.bits),
+                lines: loan.lines().to_vec(),
+            };
+            let asked = build.wanted(&call, build.encoded(&call));
+            asked.is_none_or(|(outcome, _)| {
+                wanted.bits = outcome.said.bits as u16;
+                difference(&outcome, &found).is_some()
+            })
+        }
+        _ => !loan.untouched() || first_change(&before, loan.lines()).is_some(),
+    };
+    tally.take((wanted, given), other, loan.guards_stand(), || {
+        format!("encode: duration {duration} bandwidth {bandwidth}, {length} lines")
+    });
+}
+
+pub fn run(build: &Build) -> bool {
+    let random = &mut Random(!SEED);
+    let mut tally = Tally::default();
+    for row in &ROWS {
+        let (duration, bandwidth) = (row.duration, row.bandwidth);
+        // Each alone: every number and every length.
+        for n in 0..=255 {
+            take(&mut tally, build, random, (n, bandwidth, row.longest()));
+            take(&mut tally, build, random, (duration, n, row.longest()));
+        }
+        for length in 0..=row.longest() + 8 {
+            take(&mut tally, build, random, (duration, bandwidth, length));
+        }
+        // Every set of the three faults.
+        for faults in 0..8 {
+            for _ in 0..DRAWS {
+                let mut at = (duration, bandwidth, row.longest());
+                if faults & 1 != 0 {
+                    at.0 = 2 + random.below(254) as u8;
+                }
+                if faults & 2 != 0 {
+                    at.1 = 5 + random.below(251) as u8;
+                }
+                if faults & 4 != 0 {
+                    at.2 = [
+                        row.last_stop() - 1,
+                        row.longest() + 1,
+                        random.below(row.last_stop()),
+                        row.longest() + 1 + random.below(600),
+                        0,
+                    ][random.below(5)];
+                }
+                take(&mut tally, build, random, at);
+            }
+        }
+    }
+    tally.print(&Words {
+        word: "encode",
+        most: 3,
+        touched: "a line, side byte or coefficient",
+        beyond: "what was lent",
+        original: "E",
+    })
+}

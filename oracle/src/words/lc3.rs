@@ -1,0 +1,217 @@
+//! The word `lc3`: the port against liblc3, an independent LC3 codec in C, on
+//! ordinary spectra. It arranges its float operations in its own way, so what
+//! differs is counted and nothing is demanded.
+
+use crate::document::calls::Encode;
+use crate::document::rows::{Row, ROWS};
+use crate::draw::encoder::{draw, ACTIVE, GAIN_DAMPED, GAIN_ON, THRESHOLD};
+use crate::draw::random::{Random, SEED};
+use crate::draw::side;
+use crate::liblc3::{analyze, nbits, synthesize, Data};
+use crate::original::build::{both, Build};
+use crate::port::decoder::decode;
+use crate::port::encoder::Loan;
+use crate::port::lent::Lent;
+
+const FRAMES: usize = 200_000;
+/// Draws steered to a limit of the analysis; each gives several frames.
+const STEERED: usize = 3_000;
+const COSTS: usize = 1_000_000;
+
+/// The largest difference of two lists of lines, by the largest line.
+fn apart(a: &[f32], b: &[f32]) -> f64 {
+    let largest = a
+        .iter()
+        .fold(0.0f64, |most, x| most.max(f64::from(x.abs())));
+    let difference = a.iter().zip(b).fold(0.0f64, |most, (x, y)| {
+        most.max((f64::from(*x) - f64::from(*y)).abs())
+    });
+    if largest == 0.0 {
+        difference
+    } else {
+        difference / largest
+    }
+}
+
+#[derive(Clone, Copy, Default)]
+struct Tally {
+    frames: u64,
+    active: u64,
+    /// Where the side data differ: weighting or filter count, on or off,
+    /// orders, indices.
+    heads: u64,
+    on_off: u64,
+    orders: u64,
+    indices: u64,
+    /// Where the side data agree.
+    bits: u64,
+    identical: u64,
+    apart: f64,
+    /// Frames left out, and how many of them differ in the side data.
+    underflow: [u64; 2],
+}
+
+impl Tally {
+    fn encoder(&mut self, call: &Encode) {
+        let row = call.row;
+        let mut loan = Loan::new(&call.lines);
+        let answer = loan.ask(call);
+        let mut lines = call.lines.clone();
+        let data = analyze(row, call.near_nyquist, call.bits as usize / 8, &mut lines);
+        let (theirs, ours) = (data.side().record(), loan.side());
+        if product_underflows(row, &call.lines) {
+            self.underflow[0] += 1;
+            self.underflow[1] += u64::from(*ours != theirs);
+            return;
+        }
+        self.frames += 1;
+        self.active += u64::from(ours[2] + ours[3] > 0);
+        if ours[..2] != theirs[..2] {
+            self.heads += 1;
+        } else if (ours[2] > 0, ours[3] > 0) != (theirs[2] > 0, theirs[3] > 0) {
+            self.on_off += 1;
+        } else if ours[2..4] != theirs[2..4] {
+            self.orders += 1;
+        } else if *ours != theirs {
+            self.indices += 1;
+        } else {
+            self.bits += u64::from(nbits(&data) != answer.bits as usize);
+            self.compare(&lines, loan.lines());
+        }
+    }
+
+    fn print_encoder(&self, what: &str) {
+        println!(
+            "lc3: encoder: {what}: {} frames, {} with a filter on; side data differ: weighting or filters {}, on or off {}, orders {}, indices {}; where they agree bits differ in {}, lines are the same in {} and at most {:.1e} of the largest line apart; left out, energies' product underflows: {}, {} of them differ",
+            self.frames,
+            self.active,
+            self.heads,
+            self.on_off,
+            self.orders,
+            self.indices,
+            self.bits,
+            self.identical,
+            self.apart,
+            self.underflow[0],
+            self.underflow[1]
+        );
+    }
+
+    fn compare(&mut self, theirs: &[f32], ours: &[f32]) {
+        self.apart = self.apart.max(apart(ours, theirs));
+        self.identical += u64::from(ours == theirs);
+    }
+
+    fn decoder(&mut self, random: &mut Random, row: &Row, lines: &[f32]) {
+        let mut side = side::any(random, row.bands.len());
+        // A used index 0 is no coefficient here, and a real one in liblc3.
+        for index in &mut side.indices {
+            *index = (*index).max(1);
+        }
+        let mut lent = Lent::new(lines);
+        decode(row, &side, &mut lent);
+        let mut theirs = lines.to_vec();
+        synthesize(row, &Data::of(&side), &mut theirs);
+        self.frames += 1;
+        self.active += u64::from(side.orders[..side.filters].iter().any(|n| *n > 0));
+        self.compare(&theirs, lent.list());
+    }
+}
+
+/// Whether a band's three energies multiply to 0 in f32 though none is 0: there
+/// document 01 turns the filter off, and liblc3 looks at each energy.
+fn product_underflows(row: &Row, lines: &[f32]) -> bool {
+    (0..row.bands.len()).any(|band| {
+        let energies = row
+            .subbands(band)
+            .map(|(start, stop)| lines[start..stop].iter().map(|x| x * x).sum::<f32>());
+        energies.iter().product::<f32>() == 0.0 && !energies.contains(&0.0)
+    })
+}
+
+/// Whether liblc3's side data have the assumed shape: silence, both weightings.
+fn probe() -> bool {
+    let mut good = true;
+    for row in &ROWS {
+        for (nbytes, weighting) in [(20, true), (200, false)] {
+            let data = analyze(row, false, nbytes, &mut [0.0; 400]);
+            let found = (data.nfilters as usize, data.lpc_weighting, data.rc_order);
+            if found != (row.bands.len(), weighting, [0, 0]) {
+                println!("lc3: {}: side data {found:?} for silence", row.name());
+                good = false;
+            }
+        }
+    }
+    good
+}
+
+/// liblc3's bits against E's, for random side data.
+fn costs(build: &Build) {
+    let random = &mut Random(SEED);
+    let mut differ = 0;
+    for _ in 0..COSTS {
+        let filters = 1 + random.below(2);
+        let side = side::any(random, filters);
+        differ += usize::from(nbits(&Data::of(&side)) != build.bits(&side));
+    }
+    println!("lc3: bits of {COSTS} random side data: liblc3 differs from E in {differ}");
+}
+
+/// Draws calls of one of the kinds for a row, with a bit number in whole bytes.
+fn calls(random: &mut Random, build: &Build, n: usize, kinds: &[usize]) -> Vec<Encode> {
+    let row = &ROWS[n % ROWS.len()];
+    let kind = random.one_of(kinds);
+    let length = random.one_of(&row.offered());
+    let bits = 8 * (20 + random.below(100) as u64);
+    let mut calls = Vec::new();
+    draw(random, build, row, kind, length, |call| {
+        calls.push(Encode {
+            bits,
+            ..call.clone()
+        });
+    });
+    calls
+}
+
+pub fn run() -> bool {
+    if !probe() {
+        println!("lc3: NOT COMPARED: this liblc3 has side data of another shape");
+        return false;
+    }
+    let [build, _] = both();
+    costs(&build);
+    let random = &mut Random(SEED);
+    let mut encoder = [Tally::default(); ROWS.len()];
+    let mut decoder = [Tally::default(); ROWS.len()];
+    // White noise, tones, speech, autoregressive; and those that turn filters on.
+    let ordinary = [&[0, 1, 2, 3], &ACTIVE[..]].concat();
+    for n in 0..FRAMES {
+        for call in calls(random, &build, n, &ordinary) {
+            let place = call.row.place();
+            encoder[place].encoder(&call);
+            decoder[place].decoder(random, call.row, &call.lines);
+        }
+    }
+    for (row, tally) in ROWS.iter().zip(&encoder) {
+        tally.print_encoder(&row.name());
+    }
+    let mut limits = Tally::default();
+    for n in 0..STEERED {
+        let kinds = [GAIN_ON, GAIN_DAMPED, THRESHOLD];
+        for call in calls(random, &build, n, &kinds) {
+            limits.encoder(&call);
+        }
+    }
+    limits.print_encoder("steered to the limits of gain and index, all rows");
+    for (row, tally) in ROWS.iter().zip(&decoder) {
+        println!(
+            "lc3: decoder: {}: {} frames, {} with a filter acting; lines are the same in {} and at most {:.1e} of the largest line apart",
+            row.name(),
+            tally.frames,
+            tally.active,
+            tally.identical,
+            tally.apart
+        );
+    }
+    true
+}

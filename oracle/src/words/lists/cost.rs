@@ -1,0 +1,107 @@
+//! The list `cost`: side data with E's bits.
+
+use crate::document::side::Side;
+use crate::draw::random::{Random, SEED};
+use crate::draw::side;
+use crate::original::build::Build;
+use crate::words::lists::list::{List, Record, COST};
+use std::path::Path;
+
+const RECORDS: usize = 4000;
+
+/// M1 to M5, then M14, of document 01, with the bits that it states.
+fn marked() -> Vec<(Side, usize)> {
+    let one = |weighting: u8, indices: &[usize]| {
+        let mut side = Side::plain(weighting, indices.len());
+        side.indices[..indices.len()].copy_from_slice(indices);
+        side
+    };
+    let mut none = one(0, &[]);
+    none.filters = 0;
+    vec![
+        (one(0, &[]), 1),
+        (one(0, &[9]), 13),
+        (one(1, &[0]), 18),
+        (one(0, &[7, 9]), 14),
+        (one(1, &[0; 8]), 84),
+        (none, 0),
+    ]
+}
+
+fn sides(random: &mut Random) -> Vec<Side> {
+    let mut sides: Vec<Side> = marked().into_iter().map(|(side, _)| side).collect();
+    // Every index at every place of every order; the others 8, then random.
+    for others_random in [false, true] {
+        for weighting in 0..2 {
+            for order in 1..=8 {
+                for place in 0..order {
+                    for index in 0..17 {
+                        let mut side = Side::plain(weighting, order);
+                        if others_random {
+                            side.indices = side::any(random, 1).indices;
+                        }
+                        side.indices[place] = index;
+                        sides.push(side);
+                    }
+                }
+            }
+        }
+    }
+    // Two filters: every pair of orders.
+    for weighting in 0..2 {
+        for pair in 0..81 {
+            let mut side = side::any(random, 2);
+            side.weighting = weighting;
+            side.orders = [pair / 9, pair % 9];
+            sides.push(side);
+        }
+    }
+    // Orders and indices of filters that are not counted.
+    for n in 0..400 {
+        sides.push(side::any(random, n % 2));
+    }
+    // All indices at one end.
+    for weighting in 0..2 {
+        for filters in 1..=2 {
+            for order in 0..=8 {
+                for index in [0, 16] {
+                    let mut side = Side::plain(weighting, order);
+                    side.filters = filters;
+                    side.orders = [order; 2];
+                    side.indices = [index; 16];
+                    sides.push(side);
+                }
+            }
+        }
+    }
+    while sides.len() < RECORDS {
+        let filters = random.below(3);
+        sides.push(side::any(random, filters));
+    }
+    sides
+}
+
+pub fn run(builds: &[Build; 2], root: &Path) -> bool {
+    let [std, libm] = builds;
+    let mut good = true;
+    for (m, (side, bits)) in marked().iter().enumerate() {
+        let found = std.bits(side);
+        if found != *bits {
+            println!("lists: marked case {m} of the list: E {found}, document 01 {bits}");
+            good = false;
+        }
+    }
+    let mut list = List::default();
+    let mut most = 0;
+    for side in sides(&mut Random(SEED)) {
+        let bits = std.bits(&side);
+        most = most.max(bits);
+        let record = Record {
+            choice: side.weighting,
+            bits,
+            ..Record::of_side(COST, &side)
+        };
+        list.push(&record, libm.bits(&side) != bits);
+    }
+    list.write(root, "cost", &format!(", at most {most} bits")) && good
+}

@@ -1,0 +1,42 @@
+//! The words. Each says by itself what it compares, and none uses another. The
+//! words that call the port are features of the harness.
+
+mod cost;
+#[cfg(feature = "decode")]
+mod decode;
+#[cfg(feature = "encode")]
+mod encode;
+#[cfg(feature = "error")]
+mod error;
+#[cfg(feature = "lc3")]
+mod lc3;
+mod lists;
+mod powi;
+#[cfg(feature = "lc3")]
+mod speed;
+mod tables;
+
+use std::path::Path;
+
+/// Whether all is good, or nothing if there is no such word.
+pub fn run(word: &str, root: &Path) -> Option<bool> {
+    Some(match word {
+        "tables" => tables::run(),
+        "powi" => powi::run(),
+        "cost" => cost::run(root),
+        "lists" => lists::run(root),
+        #[cfg(feature = "decode")]
+        "decode" => decode::run(),
+        #[cfg(feature = "encode")]
+        "encode" => encode::run(),
+        #[cfg(feature = "error")]
+        "error" => error::run(root),
+        #[cfg(feature = "lc3")]
+        "lc3" => lc3::run(),
+        #[cfg(feature = "lc3")]
+        "speed" => speed::times(),
+        #[cfg(feature = "lc3")]
+        "counts" => speed::counts(),
+        _ => return None,
+    })
+}

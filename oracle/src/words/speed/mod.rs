@@ -1,0 +1,336 @@
+//! The words `speed` and `counts`: the port, the original and liblc3 side by
+//! side, in one process, on the same lines in the same memory. The port is called
+//! in three ways: by its exports, as from C; the same inside the Rust crate's
+//! guard of the float environment; and by the crate's own functions, as from
+//! Rust. `speed` prints times. `counts` makes the same calls once under
+//! valgrind's callgrind, which counts their instructions. Neither demands
+//! anything; bench/run makes a table of both.
+//!
+//! A line of `speed` has fields between tabs: encode or decode, duration code,
+//! bandwidth, what is run, the orders met, then the ns a call of the port, of
+//! the port guarded, of the crate, of the Rust and of liblc3. A label of `counts`
+//! has the first four and then whose call it is and how often it was made.
+
+mod callgrind;
+// The guard's own text, as it lies from the build folder,
+// target/oracle/tree/src/words/speed.
+#[rustfmt::skip]
+#[path = "../../../../../../rust/src/float.rs"]
+mod float;
+
+use crate::document::refusals::ACCEPTED;
+use crate::document::rows::{Row, ROWS};
+use crate::document::side::Side;
+use crate::draw::bands::bands;
+use crate::draw::random::{Random, SEED};
+use crate::liblc3::{analyze, synthesize, Data};
+use crate::original::build::{both, Build};
+use crate::port::decoder::decode_lines;
+use crate::port::encoder::encode_lines;
+use gillsextant::{Bandwidth, Duration};
+use std::ffi::CString;
+use std::hint::black_box;
+use std::time::Instant;
+
+/// So many that a row's lines, before and after, stay in the first-level cache.
+const FRAMES: usize = 12;
+/// The whole list is gone through so often, since what disturbs the machine may
+/// last longer than one measurement.
+const PASSES: usize = 8;
+const ROUNDS: usize = 250;
+/// Far above the weighting limits; a whole number of bytes for liblc3.
+const BITS: u64 = 1600;
+
+const DURATIONS: [Duration; 2] = [Duration::TenMs, Duration::SevenPointFiveMs];
+const BANDWIDTHS: [Bandwidth; 5] = [
+    Bandwidth::NarrowBand,
+    Bandwidth::WideBand,
+    Bandwidth::SemiSuperWideBand,
+    Bandwidth::SuperWideBand,
+    Bandwidth::FullBand,
+];
+
+/// The lines of a frame at a round address, as a codec's own buffer has them.
+#[derive(Clone)]
+#[repr(align(64))]
+struct Lines([f32; 400]);
+
+/// The frames of a row, and the same memory for all to work in.
+struct Frames {
+    fresh: Vec<Lines>,
+    used: Vec<Lines>,
+    length: usize,
+}
+
+/// The least times met so far: what is measured, then the orders met and the
+/// times, the first of a call that does nothing.
+#[derive(Default)]
+struct Least(Vec<(String, String, Times)>);
+
+type Times = [f64; 6];
+
+impl Least {
+    fn keep(&mut self, name: &str, met: &str, times: Times) {
+        match self.0.iter_mut().find(|entry| entry.0 == name) {
+            Some(entry) => {
+                for (least, time) in entry.2.iter_mut().zip(times) {
+                    *least = least.min(time);
+                }
+            }
+            None => self.0.push((name.to_string(), met.to_string(), times)),
+        }
+    }
+
+    fn print(&self) {
+        for (name, met, [nothing, times @ ..]) in &self.0 {
+            let times = times.map(|t| format!("{:.2}", t - nothing));
+            println!("{name}\t{met}\t{}", times.join("\t"));
+        }
+    }
+}
+
+/// Where measurements go: to callgrind, or to the least times.
+enum Sink {
+    Counts,
+    Times(Least),
+}
+
+impl Frames {
+    fn new(fresh: Vec<Lines>, row: &Row) -> Self {
+        Frames {
+            used: fresh.clone(),
+            fresh,
+            length: row.last_stop(),
+        }
+    }
+
+    fn refill(&mut self) {
+        for (used, fresh) in self.used.iter_mut().zip(&self.fresh) {
+            used.0[..self.length].copy_from_slice(&fresh.0[..self.length]);
+        }
+    }
+
+    /// One call for each frame, in ns a call; the copying is not timed.
+    fn time(&mut self, call: &mut impl FnMut(&mut [f32])) -> f64 {
+        self.refill();
+        let start = Instant::now();
+        for used in &mut self.used {
+            call(&mut used.0[..self.length]);
+        }
+        start.elapsed().as_nanos() as f64 / FRAMES as f64
+    }
+
+    /// One call for each frame, its instructions counted; the copying is not.
+    fn count(&mut self, label: &str, call: &mut impl FnMut(&mut [f32])) {
+        self.refill();
+        for used in &mut self.used {
+            let lines = black_box(&mut used.0[..self.length]);
+            callgrind::toggle();
+            call(lines);
+            callgrind::toggle();
+        }
+        callgrind::dump(&CString::new(label).expect("a label without zeros"));
+    }
+}
+
+/// The calls by turns, so that what disturbs the machine disturbs all of them
+/// alike, and beside them a call that does nothing, which is taken off.
+fn measure(
+    sink: &mut Sink,
+    (name, met): (&str, &str),
+    frames: &mut Frames,
+    (mut port, mut guarded, mut by_crate): (
+        impl FnMut(&mut [f32]),
+        impl FnMut(&mut [f32]),
+        impl FnMut(&mut [f32]),
+    ),
+    mut original: impl FnMut(&mut [f32]),
+    mut lc3: impl FnMut(&mut [f32]),
+) {
+    let mut nothing = |lines: &mut [f32]| {
+        black_box(lines);
+    };
+    let Sink::Times(times) = sink else {
+        frames.count(&format!("{name}\tnothing\t{FRAMES}"), &mut nothing);
+        frames.count(&format!("{name}\tport\t{FRAMES}"), &mut port);
+        frames.count(&format!("{name}\tguarded\t{FRAMES}"), &mut guarded);
+        frames.count(&format!("{name}\tcrate\t{FRAMES}"), &mut by_crate);
+        frames.count(&format!("{name}\tRust\t{FRAMES}"), &mut original);
+        frames.count(&format!("{name}\tliblc3\t{FRAMES}"), &mut lc3);
+        return;
+    };
+    let mut least: Times = [f64::INFINITY; 6];
+    for _ in 0..ROUNDS {
+        least[0] = least[0].min(frames.time(&mut nothing));
+        least[1] = least[1].min(frames.time(&mut port));
+        least[2] = least[2].min(frames.time(&mut guarded));
+        least[3] = least[3].min(frames.time(&mut by_crate));
+        least[4] = least[4].min(frames.time(&mut original));
+        least[5] = least[5].min(frames.time(&mut lc3));
+    }
+    times.keep(name, met, least);
+}
+
+/// Frames whose bands all get a filter, and the same one from all three.
+fn active(random: &mut Random, row: &Row, build: &Build) -> Vec<Lines> {
+    let mut frames = Vec::new();
+    while frames.len() < FRAMES {
+        let mut lines = Lines([0.0; 400]);
+        bands(random, row, &mut lines.0[..row.last_stop()], 0, 10);
+        let drawn = lines.clone();
+        let lines = &mut lines.0[..row.last_stop()];
+        let answer = (build.encode)(row.duration, row.bandwidth, BITS, false, lines).side;
+        lines.copy_from_slice(&drawn.0[..row.last_stop()]);
+        let second = analyze(row, false, BITS as usize / 8, lines).side();
+        let met = &answer.orders[..row.bands.len()];
+        if answer == second_opinion(&answer, &second) && met.iter().all(|order| *order > 0) {
+            frames.push(drawn);
+        }
+    }
+    frames
+}
+
+/// liblc3's side data, which leaves open what it does not count.
+fn second_opinion(first: &Side, second: &Side) -> Side {
+    let mut opinion = first.clone();
+    opinion.orders[..second.filters].copy_from_slice(&second.orders[..second.filters]);
+    for f in 0..second.filters {
+        let places = 8 * f..8 * f + second.orders[f];
+        opinion.indices[places.clone()].copy_from_slice(&second.indices[places]);
+    }
+    opinion
+}
+
+fn encode(sink: &mut Sink, row: &Row, build: &Build, what: &str, flag: bool, frames: Vec<Lines>) {
+    let (d, w) = (row.duration, row.bandwidth);
+    let (duration, bandwidth) = (DURATIONS[d as usize], BANDWIDTHS[w as usize]);
+    let mut frames = Frames::new(frames, row);
+    let (mut side, mut coefficients) = ([0; 20], [0.0; 16]);
+    let mut met = Vec::new();
+    frames.refill();
+    for (used, fresh) in frames.used.iter_mut().zip(&frames.fresh) {
+        let lines = &mut used.0[..frames.length];
+        let answer = encode_lines(d, w, BITS, flag, lines, &mut side, &mut coefficients);
+        lines.copy_from_slice(&fresh.0[..frames.length]);
+        let original = (build.encode)(d, w, BITS, flag, lines);
+        assert_eq!(answer.refusal, 0, "the port refuses a frame of the bench");
+        assert_eq!(side, original.side.record(), "the port and E differ");
+        met.extend(side[2..2 + row.bands.len()].iter().map(u8::to_string));
+    }
+    met.sort_unstable();
+    met.dedup();
+    let (mut guarded_side, mut guarded_coefficients) = (side, coefficients);
+    measure(
+        sink,
+        (&format!("encode\t{d}\t{w}\t{what}"), &met.join(" ")),
+        &mut frames,
+        (
+            |lines: &mut [f32]| {
+                let (side, coefficients) = (&mut side, &mut coefficients);
+                black_box(encode_lines(d, w, BITS, flag, lines, side, coefficients));
+            },
+            |lines: &mut [f32]| {
+                let (side, coefficients) = (&mut guarded_side, &mut guarded_coefficients);
+                let call = move || encode_lines(d, w, BITS, flag, lines, side, coefficients);
+                black_box(float::in_default(call));
+            },
+            |lines: &mut [f32]| {
+                black_box(&gillsextant::encode(duration, bandwidth, BITS, flag, lines));
+            },
+        ),
+        |lines| {
+            black_box((build.encode)(d, w, BITS, flag, lines));
+        },
+        |lines| {
+            black_box(analyze(row, flag, BITS as usize / 8, lines));
+        },
+    );
+}
+
+fn decode(sink: &mut Sink, row: &Row, order: usize, build: &Build, random: &mut Random) {
+    let (d, w) = (row.duration, row.bandwidth);
+    let (duration, bandwidth) = (DURATIONS[d as usize], BANDWIDTHS[w as usize]);
+    let drawn = (0..FRAMES).map(|_| {
+        let mut lines = Lines([0.0; 400]);
+        bands(random, row, &mut lines.0[..row.last_stop()], 0, 10);
+        lines
+    });
+    let mut frames = Frames::new(drawn.collect(), row);
+    let mut side = Side::plain(0, 0);
+    side.filters = row.bands.len();
+    side.orders = [order, if row.bands.len() == 2 { order } else { 0 }];
+    side.indices.fill_with(|| 6 + random.below(5));
+    let filters = side.filters as u8;
+    let orders = &side.orders.map(|n| n as u8);
+    let indices = &side.indices.map(|n| n as u8);
+    let data = Data::of(&side);
+    let lines = &mut frames.used[0].0[..frames.length];
+    let answer = decode_lines(d, w, filters, orders, indices, lines);
+    assert_eq!(answer, ACCEPTED, "the port refuses a frame of the bench");
+    measure(
+        sink,
+        (
+            &format!("decode\t{d}\t{w}\torder {order}"),
+            &order.to_string(),
+        ),
+        &mut frames,
+        (
+            |lines: &mut [f32]| {
+                black_box(decode_lines(d, w, filters, orders, indices, lines));
+            },
+            |lines: &mut [f32]| {
+                let call = move || decode_lines(d, w, filters, orders, indices, lines);
+                black_box(float::in_default(call));
+            },
+            |lines: &mut [f32]| {
+                let _ = black_box(gillsextant::decode(
+                    duration, bandwidth, filters, orders, indices, lines,
+                ));
+            },
+        ),
+        |lines| {
+            (build.decode)(d, w, side.filters, &side.orders, &side.indices, lines);
+            black_box(lines);
+        },
+        |lines| {
+            synthesize(row, &data, lines);
+            black_box(lines);
+        },
+    );
+}
+
+/// Every measurement once, on the same frames each time.
+fn pass(sink: &mut Sink, build: &Build) {
+    let mut random = Random(SEED);
+    for row in &ROWS {
+        let frames = active(&mut random, row, build);
+        let silence = vec![Lines([0.0; 400]); FRAMES];
+        encode(sink, row, build, "on", false, frames.clone());
+        encode(sink, row, build, "flag", true, frames);
+        encode(sink, row, build, "silence", false, silence);
+    }
+    for row in &ROWS {
+        for order in 0..=8 {
+            decode(sink, row, order, build, &mut random);
+        }
+    }
+}
+
+pub fn times() -> bool {
+    let [build, _] = both();
+    println!("the best of {PASSES} passes of {ROUNDS} rounds of {FRAMES} frames");
+    let mut sink = Sink::Times(Least::default());
+    for _ in 0..PASSES {
+        pass(&mut sink, &build);
+    }
+    if let Sink::Times(least) = sink {
+        least.print();
+    }
+    true
+}
+
+pub fn counts() -> bool {
+    let [build, _] = both();
+    pass(&mut Sink::Counts, &build);
+    true
+}
