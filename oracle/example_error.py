@@ -33,14 +33,6 @@ SHOWN = [range(117, 123), range(237, 240)]
 SIGN = 1 << 31
 
 
-def calls():
-    """The list's calls: what was asked, the lines, the side data, the
-    coefficients and the lines afterwards, as patterns."""
-    for call, answer in lists.records(LIST.read_bytes()):
-        asked = (call.duration, call.bandwidth, call.bits)
-        yield asked, call.lines, answer.side, answer.coefficients, answer.lines
-
-
 def units(pattern):
     """A finite f32 as a whole number of 2^-149."""
     exponent, fraction = pattern >> 23 & 0xFF, pattern & 0x7FFFFF
@@ -80,43 +72,37 @@ def total(a, b):
     return rounded(units(a) + units(b), 0, a & b & SIGN)
 
 
-def floats(filters):
-    """The f32 lattice over all filters: the filtered lines' patterns."""
+def lattice(filters, enter, plus):
+    """The lattice over all filters: what it gives for each line, with the order of
+    the line's filter. `plus(a, q, x)` is a + q x."""
     state = [0] * 8
-    result = []
     for coefficients, lines in filters:
-        order = len(coefficients)
         for line in lines:
-            t = b = line
+            t = b = enter(line)
             for k, q in enumerate(coefficients):
                 old = state[k]
                 state[k] = b
-                if k < order - 1:
-                    b = total(product(q, t), old)
-                t = total(t, product(q, old))
-            result.append(t)
-    return result
+                b, t = plus(old, q, t), plus(t, q, old)
+            yield t, len(coefficients)
+
+
+def floats(filters):
+    """The f32 lattice: the filtered lines' patterns."""
+    plus = lambda a, q, x: total(a, product(q, x))
+    return [t for t, _ in lattice(filters, int, plus)]
 
 
 def exacts(filters):
     """The exact lattice: the lines as whole numbers of 2^-357. A number that
     came through k stages is a whole number of 2^-(149 + 26 k), and is kept so."""
-    state = [0] * 8
-    result = []
-    for coefficients, lines in filters:
-        order = len(coefficients)
-        for line in lines:
-            t = b = units(line)
-            for k, q in enumerate(coefficients):
-                q, rest = divmod(units(q), 1 << 123)
-                if rest:
-                    sys.exit("example: a coefficient is no whole number of 2^-26")
-                old = state[k]
-                state[k] = b
-                b = q * t + (old << 26)
-                t = (t << 26) + q * old
-            result.append(t << 26 * (8 - order))
-    return result
+
+    def plus(a, q, x):
+        q, rest = divmod(units(q), 1 << 123)
+        if rest:
+            sys.exit("example: a coefficient is no whole number of 2^-26")
+        return (a << 26) + q * x
+
+    return [t << 26 * (8 - order) for t, order in lattice(filters, units, plus)]
 
 
 def least_m(lines):
@@ -143,10 +129,15 @@ def whole(number):
 def example():
     """Returns whether the f32 lines are the Rust's and Worked.antt has these
     numbers."""
-    found = [call for call in calls() if call[0] == CALL]
+    found = [
+        (call.lines, answer)
+        for call, answer in lists.records(LIST.read_bytes())
+        if (call.duration, call.bandwidth, call.bits) == CALL
+    ]
     if len(found) != 1:
         sys.exit(f"example: {len(found)} such calls in the list")
-    _, before, side, coefficients, after = found[0]
+    [(before, answer)] = found
+    side, coefficients, after = answer.side, answer.coefficients, answer.lines
     filters = [
         (coefficients[8 * f : 8 * f + side[2 + f]], before[start:stop])
         for f, (start, stop) in enumerate(BANDS)
@@ -168,13 +159,10 @@ def example():
     wrong = sum(f != a for f, a in zip(filtered, after[first:last]))
     print(f"example: {wrong} lines are not the Rust's")
     text = WORKED.read_text(encoding="utf-8")
-    wanted = [f"0x{p:08x}" for p in before]
-    wanted += [f"0x{filtered[p - first]:08x}" for part in SHOWN for p in part]
-    wanted += [whole(exact[p - first]) for part in SHOWN for p in part]
-    wanted += [str(abs(away[p - first])) for part in SHOWN for p in part]
-    written = re.findall(r"0x[0-9a-f]{8}|(?:pos |negsuc |)\d{20,}", text)
-    patterns = [f"0x{p:08x}" for p in coefficients]
-    same = written == wanted[: len(before)] + patterns + wanted[len(before) :]
+    shown = [place - first for part in SHOWN for place in part]
+    wanted = [f"0x{p:08x}" for p in (*before, *coefficients, *(filtered[n] for n in shown))]
+    wanted += [whole(exact[n]) for n in shown] + [str(abs(away[n])) for n in shown]
+    same = wanted == re.findall(r"0x[0-9a-f]{8}|(?:pos |negsuc |)\d{20,}", text)
     print(f"example: {WORKED.name} has these numbers: {'yes' if same else 'no'}")
     return wrong == 0 and same
 

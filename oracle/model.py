@@ -305,44 +305,42 @@ def cost_of(tables, weighting, filters, orders, indices):
     return sum(filter_cost(tables, weighting, used(orders, indices, f)) for f in range(filters))
 
 
-# Lattices: each takes its filters in turn, a filter being its coefficients, as
-# many as its order, and its band.
+# Lattices: each filters one line with the coefficients of a filter, at least one,
+# and the state of eight numbers.
 
 
-def encode_lines(filters, lines):
+def encode_line(coefficients, state, t):
+    *stages, last = coefficients
+    b = t
+    for k, q in enumerate(stages):
+        old = state[k]
+        state[k] = b
+        b = add(mul(q, t), old)
+        t = add(t, mul(q, old))
+    t = add(t, mul(last, state[len(stages)]))
+    state[len(stages)] = b
+    return t
+
+
+def decode_line(coefficients, state, t):
+    *stages, last = coefficients
+    t = sub(t, mul(last, state[len(stages)]))
+    for k, q in reversed(list(enumerate(stages))):
+        t = sub(t, mul(q, state[k]))
+        state[k + 1] = add(mul(q, t), state[k])
+    state[0] = t
+    return t
+
+
+def filtered(lattice, filters, lines):
+    """The lines after filters in turn, with the state carried. A filter is its
+    coefficients, as many as its order, and its band."""
     lines = list(lines)
     state = [0.0] * 8
     for coefficients, band in filters:
-        if not coefficients:
-            continue
-        last = len(coefficients) - 1
-        for place in range(band[0], band[-1]):
-            t = b = lines[place]
-            for k, q in enumerate(coefficients[:last]):
-                old = state[k]
-                state[k] = b
-                b = add(mul(q, t), old)
-                t = add(t, mul(q, old))
-            t = add(t, mul(coefficients[last], state[last]))
-            state[last] = b
-            lines[place] = t
-    return lines
-
-
-def decode_lines(filters, lines):
-    lines = list(lines)
-    state = [0.0] * 8
-    for coefficients, band in filters:
-        if not coefficients:
-            continue
-        last = len(coefficients) - 1
-        for place in range(band[0], band[-1]):
-            t = sub(lines[place], mul(coefficients[last], state[last]))
-            for k in range(last - 1, -1, -1):
-                q = coefficients[k]
-                t = sub(t, mul(q, state[k]))
-                state[k + 1] = add(mul(q, t), state[k])
-            lines[place] = state[0] = t
+        if coefficients:
+            for place in range(band[0], band[-1]):
+                lines[place] = lattice(coefficients, state, lines[place])
     return lines
 
 
@@ -374,7 +372,7 @@ def decode_call(tables, call, across):
         ([coefficient_of(i) if i else 0.0 for i in used(call.orders, call.indices, f)], band)
         for f, band in enumerate(ROWS[call.duration][call.bandwidth][: call.filters])
     ]
-    lines = decode_lines(filters, map(float_of, call.lines))
+    lines = filtered(decode_line, filters, map(float_of, call.lines))
     return Answer(lines=tuple(map(pattern_of, lines))), []
 
 
@@ -399,7 +397,7 @@ def encode_call(tables, call, across):
         bits=cost_of(tables, weighting, len(bands), orders, indices),
         side=bytes([weighting, len(bands), *orders, *indices]),
         coefficients=tuple(map(pattern_of, coefficients)),
-        lines=tuple(map(pattern_of, encode_lines(filters, lines))),
+        lines=tuple(map(pattern_of, filtered(encode_line, filters, lines))),
     )
     return answer, unquantized
 

@@ -110,13 +110,14 @@ def full_band(filters, orders, first, others):
     return decode(0, 4, filters, orders, (first,) + (others,) * 15, 400)
 
 
-def row_lengths():
+def at_rows(said, make):
     """Of every row: one line too few, just enough, the most, and one too many."""
     for duration, rows in enumerate(model.ROWS):
         for bandwidth, bands in enumerate(rows):
             stop, longest = bands[-1][-1], model.LONGEST[duration]
             for count in [stop - 1, stop, longest, longest + 1]:
-                yield duration, bandwidth, count
+                name = f"{NAMES[duration]} bandwidth {bandwidth}, {said.format(count)}"
+                yield name, make(duration, bandwidth, count)
 
 
 def meeting(a, b):
@@ -134,9 +135,7 @@ def meeting(a, b):
 
 
 def decode_cases():
-    for duration, bandwidth, count in row_lengths():
-        name = f"{NAMES[duration]} bandwidth {bandwidth}, {count} lines"
-        yield name, frame(duration, bandwidth, count)
+    yield from at_rows("{} lines", frame)
     yield "duration 2", frame(2, 0, 300)
     yield "duration 255", frame(255, 0, 300)
     yield "bandwidth 5", frame(0, 5, 300)
@@ -191,9 +190,7 @@ def silence(duration, bandwidth, count, bits=1000):
 
 
 def encode_cases():
-    for duration, bandwidth, count in row_lengths():
-        name = f"{NAMES[duration]} bandwidth {bandwidth}, silent lines {count}"
-        yield name, silence(duration, bandwidth, count)
+    yield from at_rows("silent lines {}", silence)
     yield "duration 2", encode(2, 0, 400)
     yield "duration 255", encode(255, 0, 300)
     yield "bandwidth 5", encode(0, 5, 400)

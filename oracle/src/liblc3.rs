@@ -2,8 +2,7 @@
 //! below, which no header of liblc3's package states; the word `lc3` probes them
 //! first.
 
-use crate::document::rows::Row;
-use crate::document::side::Side;
+use crate::document::{Row, Side};
 use std::ffi::c_int;
 
 /// liblc3's side data; `rc` holds indices less 8.

@@ -1,9 +1,8 @@
-//! The ways of comparing, each once: lines, encoders' answers, calls that are
-//! refused, and what is counted and shown where two sides differ.
+//! The ways of comparing, each once.
 
-pub mod differing;
-pub mod lines;
-pub mod outcomes;
 #[cfg(any(feature = "decode", feature = "encode"))]
 pub mod refusals;
+mod same;
 pub mod strange;
+
+pub use same::{difference, first_change, first_difference, Differing};

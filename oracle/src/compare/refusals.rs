@@ -1,8 +1,8 @@
 //! Calls that document 01 may refuse, against its table: what the port answers,
 //! and that a refused call changes nothing.
 
-use crate::compare::differing::Differing;
-use crate::document::refusals::Answer;
+use crate::compare::same::Differing;
+use crate::document::Answer;
 
 #[derive(Default)]
 pub struct Tally {
@@ -12,17 +12,6 @@ pub struct Tally {
     guards: u64,
     differ: u64,
     bad: Differing,
-}
-
-/// What is said of a word's calls.
-pub struct Words {
-    pub word: &'static str,
-    /// The highest refusal.
-    pub most: usize,
-    /// What a refused call could change, and where a call could write.
-    pub touched: &'static str,
-    pub beyond: &'static str,
-    pub original: &'static str,
 }
 
 impl Tally {
@@ -47,24 +36,19 @@ impl Tally {
         });
     }
 
-    pub fn print(&self, words: &Words) -> bool {
-        let Words {
-            word,
-            most,
-            touched,
-            beyond,
-            original,
-        } = words;
-        println!(
-            "{word}: refusals: {} calls; by document 01's table accepted {}, refused 1..{most} {:?}; {} wrong answers, {} refused calls changed {touched}, {} wrote beyond {beyond}, {} accepted ones differ from {original}",
-            self.by_number.iter().sum::<u64>(),
-            self.by_number[0],
-            &self.by_number[1..=*most],
-            self.wrong,
-            self.changed,
-            self.guards,
-            self.differ
-        );
-        self.wrong + self.changed + self.guards + self.differ == 0
+    /// For a word with so many refusals: what a refused call could change, where
+    /// a call could write, and which original was asked.
+    pub fn print(&self, word: &str, most: usize, [what, beyond, original]: [&str; 3]) -> bool {
+        let Tally {
+            wrong,
+            changed,
+            guards,
+            differ,
+            ..
+        } = self;
+        let calls: u64 = self.by_number.iter().sum();
+        let (accepted, refused) = (self.by_number[0], &self.by_number[1..=most]);
+        println!("{word}: refusals: {calls} calls; by document 01's table accepted {accepted}, refused 1..{most} {refused:?}; {wrong} wrong answers, {changed} refused calls changed {what}, {guards} wrote beyond {beyond}, {differ} accepted ones differ from {original}");
+        wrong + changed + guards + differ == 0
     }
 }

@@ -1,9 +1,8 @@
 //! What E and D do with input that document 01 refuses or changes: one line
 //! each, beginning `strange:`.
 
-use crate::document::rows::Row;
-use crate::original::build::Build;
-use crate::original::caught::caught;
+use crate::document::Row;
+use crate::original::{caught, Build};
 use std::hint::black_box;
 
 /// `act` gives a sentence; a panic gives "panics".

@@ -4,9 +4,8 @@
 //! Assumes finite lines of at most 2^119 in size, and coefficients that are
 //! whole numbers of 2^-26 and below 1 in size.
 
-use crate::document::rules::Filters;
+use crate::document::rules::{lattice, Filters};
 use crate::document::whole::Whole;
-use std::cmp::Ordering;
 
 /// The range of m in which the bound is claimed.
 pub const LEAST: i32 = -126;
@@ -26,27 +25,20 @@ fn whole(q: f32) -> i64 {
 
 /// The exact lines, in units of 2^-357. The eight states carry from band to
 /// band; a filter of order 0 changes neither lines nor states.
-pub fn lattice(filters: &Filters, lines: &[f32]) -> Vec<Vec<Whole>> {
+pub fn lines(filters: &Filters, before: &[f32]) -> Vec<Vec<Whole>> {
     let mut state = [Whole::ZERO; 8];
-    let mut result = Vec::new();
-    for (f, (start, stop)) in filters.bands.iter().enumerate() {
+    let bands = filters.bands.iter().enumerate();
+    let exact = bands.map(|(f, (start, stop))| {
         let q: Vec<i64> = filters.used(f).iter().map(|q| whole(*q)).collect();
-        let band = lines[*start..*stop].iter().map(|line| {
-            let (mut t, mut b) = (Whole::of_f32(*line, MORE), Whole::of_f32(*line, MORE));
-            for (k, q) in q.iter().enumerate() {
-                let old = state[k];
-                state[k] = b;
-                // The last stage has no use for a new b.
-                if k + 1 < filters.orders[f] {
-                    b = old.plus_times(&t.divided(26), *q);
-                }
-                t = t.plus_times(&old.divided(26), *q);
-            }
-            t
+        let band = before[*start..*stop].iter().map(|line| {
+            let line = Whole::of_f32(*line, MORE);
+            lattice(&q, &mut state, line, |a, q, x| {
+                a.plus_times(&x.divided(26), q)
+            })
         });
-        result.push(band.collect());
-    }
-    result
+        band.collect()
+    });
+    exact.collect()
 }
 
 /// The least whole m, not below -126, with all lines at most 2^m in size, or
@@ -83,13 +75,14 @@ pub fn distance(filters: &Filters, before: &[f32], after: &[f32], m: i32) -> Dis
         line: filters.bands[0].0,
         broken: false,
     };
-    let exact = lattice(filters, before);
+    let exact = lines(filters, before);
     for ((start, _), exact) in filters.bands.iter().zip(&exact) {
         for (n, exact) in exact.iter().enumerate() {
             let line = start + n;
             let (part, broken) = if after[line].is_finite() {
-                let away = Whole::of_f32(after[line], MORE).minus(exact).size();
-                let broken = away.compare(&bound) == Ordering::Greater;
+                let after = Whole::of_f32(after[line], MORE);
+                let away = after.plus_times(exact, -1).size();
+                let broken = bound.plus_times(&away, -1).is_negative();
                 (away.part_of_two(e), broken)
             } else {
                 (f64::INFINITY, true)

@@ -58,30 +58,16 @@ impl Row {
     }
 }
 
-const fn row(
-    duration: u8,
-    bandwidth: u8,
-    bands: &'static [(usize, usize)],
-    cuts: &'static [[usize; 2]],
-) -> Row {
-    Row {
-        duration,
-        bandwidth,
-        bands,
-        cuts,
-    }
-}
-
 #[rustfmt::skip]
 pub static ROWS: [Row; 10] = [
-    row(0, 0, &[(12, 80)], &[[34, 57]]),
-    row(0, 1, &[(12, 160)], &[[61, 110]]),
-    row(0, 2, &[(12, 240)], &[[88, 164]]),
-    row(0, 3, &[(12, 160), (160, 320)], &[[61, 110], [213, 266]]),
-    row(0, 4, &[(12, 200), (200, 400)], &[[74, 137], [266, 333]]),
-    row(1, 0, &[(9, 60)], &[[26, 43]]),
-    row(1, 1, &[(9, 120)], &[[46, 83]]),
-    row(1, 2, &[(9, 180)], &[[66, 123]]),
-    row(1, 3, &[(9, 120), (120, 240)], &[[46, 82], [159, 200]]),
-    row(1, 4, &[(9, 150), (150, 300)], &[[56, 103], [200, 250]]),
+    Row { duration: 0, bandwidth: 0, bands: &[(12, 80)], cuts: &[[34, 57]] },
+    Row { duration: 0, bandwidth: 1, bands: &[(12, 160)], cuts: &[[61, 110]] },
+    Row { duration: 0, bandwidth: 2, bands: &[(12, 240)], cuts: &[[88, 164]] },
+    Row { duration: 0, bandwidth: 3, bands: &[(12, 160), (160, 320)], cuts: &[[61, 110], [213, 266]] },
+    Row { duration: 0, bandwidth: 4, bands: &[(12, 200), (200, 400)], cuts: &[[74, 137], [266, 333]] },
+    Row { duration: 1, bandwidth: 0, bands: &[(9, 60)], cuts: &[[26, 43]] },
+    Row { duration: 1, bandwidth: 1, bands: &[(9, 120)], cuts: &[[46, 83]] },
+    Row { duration: 1, bandwidth: 2, bands: &[(9, 180)], cuts: &[[66, 123]] },
+    Row { duration: 1, bandwidth: 3, bands: &[(9, 120), (120, 240)], cuts: &[[46, 82], [159, 200]] },
+    Row { duration: 1, bandwidth: 4, bands: &[(9, 150), (150, 300)], cuts: &[[56, 103], [200, 250]] },
 ];

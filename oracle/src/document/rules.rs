@@ -77,6 +77,24 @@ pub fn gain(lags: &[f32; 9]) -> f32 {
     }
 }
 
+/// One line through the stages of the encoder's lattice, in any numbers:
+/// `plus(a, q, x)` is a + q x.
+pub fn lattice<N: Copy, Q: Copy>(
+    coefficients: &[Q],
+    state: &mut [N; 8],
+    line: N,
+    plus: impl Fn(N, Q, N) -> N,
+) -> N {
+    let (mut t, mut b) = (line, line);
+    for (state, q) in state.iter_mut().zip(coefficients) {
+        let old = *state;
+        *state = b;
+        b = plus(old, *q, t);
+        t = plus(t, *q, old);
+    }
+    t
+}
+
 /// The encoder's filters: for each a band, an order and eight coefficients.
 pub struct Filters<'a> {
     pub bands: &'a [(usize, usize)],
@@ -96,20 +114,8 @@ impl Filters<'_> {
         let mut lines = before.to_vec();
         let mut state = [0.0f32; 8];
         for (f, (start, stop)) in self.bands.iter().enumerate() {
-            let Some((last, stages)) = self.used(f).split_last() else {
-                continue;
-            };
             for line in &mut lines[*start..*stop] {
-                let (mut t, mut b) = (*line, *line);
-                for (k, q) in stages.iter().enumerate() {
-                    let old = state[k];
-                    state[k] = b;
-                    b = q * t + old;
-                    t += q * old;
-                }
-                t += last * state[stages.len()];
-                state[stages.len()] = b;
-                *line = t;
+                *line = lattice(self.used(f), &mut state, *line, |a, q, x| a + q * x);
             }
         }
         lines

@@ -4,8 +4,6 @@
 //! exact lattice stays below 2^484: lines up to 2^119, eight stages that each at
 //! most double, units of 2^-357.
 
-use std::cmp::Ordering;
-
 const LIMBS: usize = 8;
 
 /// 2 to the e as an f64, for a normal result.
@@ -49,23 +47,19 @@ impl Whole {
         }
     }
 
-    pub fn plus(&self, other: &Whole) -> Whole {
-        let mut carry = false;
+    /// The sum with another number times a whole number below 2^62 in size.
+    pub fn plus_times(&self, other: &Whole, by: i64) -> Whole {
+        let mut carry = 0i128;
         Whole(std::array::from_fn(|n| {
-            let (sum, a) = self.0[n].overflowing_add(other.0[n]);
-            let (sum, b) = sum.overflowing_add(u64::from(carry));
-            carry = a | b;
-            sum
+            let product = i128::from(other.0[n]) * i128::from(by);
+            let wide = i128::from(self.0[n]) + product + carry;
+            carry = wide >> 64;
+            wide as u64
         }))
     }
 
-    pub fn negated(&self) -> Whole {
-        let one = Whole::two(0);
-        Whole(self.0.map(|limb| !limb)).plus(&one)
-    }
-
-    pub fn minus(&self, other: &Whole) -> Whole {
-        self.plus(&other.negated())
+    fn negated(&self) -> Whole {
+        Whole::ZERO.plus_times(self, -1)
     }
 
     pub fn is_negative(&self) -> bool {
@@ -80,21 +74,6 @@ impl Whole {
         }
     }
 
-    /// The sum with another number times a coefficient.
-    pub fn plus_times(&self, other: &Whole, by: i64) -> Whole {
-        let size = u128::from(by.unsigned_abs());
-        let mut carry = 0u64;
-        let mut product = other.0.map(|limb| {
-            let wide = u128::from(limb) * size + u128::from(carry);
-            carry = (wide >> 64) as u64;
-            wide as u64
-        });
-        if by < 0 {
-            product = Whole(product).negated().0;
-        }
-        self.plus(&Whole(product))
-    }
-
     /// Divided by 2^bits, for bits from 1 to 63. It panics if there is a rest:
     /// whoever divides here says that there is none.
     pub fn divided(&self, bits: usize) -> Whole {
@@ -104,11 +83,6 @@ impl Whole {
             let above = self.0.get(n + 1).copied().unwrap_or(sign);
             self.0[n] >> bits | above << (64 - bits)
         }))
-    }
-
-    /// Assumes that neither is negative.
-    pub fn compare(&self, other: &Whole) -> Ordering {
-        self.0.iter().rev().cmp(other.0.iter().rev())
     }
 
     /// The number divided by 2^e, near enough to be printed. Assumes that it is

@@ -1,7 +1,7 @@
 //! Lines made for a row's bands and subbands, so that filters turn on or a corner
 //! of the energies is reached.
 
-use crate::document::rows::Row;
+use crate::document::Row;
 use crate::draw::random::{two, Random};
 use crate::draw::spectra::{autoregressive, noise, scale};
 

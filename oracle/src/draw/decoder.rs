@@ -1,11 +1,9 @@
 //! Drawing decoder calls.
 
-use crate::document::calls::Decode;
-use crate::document::rows::Row;
-use crate::document::side::Side;
+use crate::document::{Decode, Row, Side};
+use crate::draw::numbers::{any_side, length};
 use crate::draw::random::Random;
 use crate::draw::spectra::{fill, KINDS};
-use crate::draw::{lengths, side};
 
 /// A call with lines of a kind.
 pub fn of_kind(
@@ -28,7 +26,7 @@ pub fn of_kind(
 /// Any call of a row; the ends of the index table, and its middle, more often.
 pub fn any(random: &mut Random, row: &'static Row) -> Decode {
     let filters = random.one_of(&[0, 1, 1, 2, 2, 2, 2, 2]);
-    let mut side = side::any(random, filters);
+    let mut side = any_side(random, filters);
     match random.below(16) {
         0 => side.indices = [16; 16],
         1 => side.indices = [0; 16],
@@ -37,7 +35,7 @@ pub fn any(random: &mut Random, row: &'static Row) -> Decode {
         _ => {}
     }
     let which = random.below(4);
-    let length = lengths::one(random, row, which);
+    let length = length(random, row, which);
     let kind = random.below(KINDS.len());
     of_kind(random, row, side, kind, length)
 }

@@ -2,14 +2,13 @@
 //! kinds that turn the filters on in every order, that reach the corners of the
 //! energies, and that are steered to a limit of the analysis (`steer`).
 
-use crate::document::calls::Encode;
-use crate::document::rows::Row;
+use crate::document::{Encode, Row};
 use crate::draw::bands::{bands, coarse, falling, near_underflow, some_subband, wave};
-use crate::draw::lengths;
+use crate::draw::numbers::any_length;
 use crate::draw::random::Random;
 use crate::draw::spectra::{self, autoregressive, noise};
-use crate::draw::steer::{near_gain, near_one, near_threshold};
-use crate::original::build::Build;
+use crate::draw::steer::{steer, Limit};
+use crate::original::Build;
 
 const PLAIN: usize = spectra::KINDS.len();
 
@@ -48,8 +47,15 @@ pub fn name(kind: usize) -> &'static str {
     }
 }
 
-pub fn is_steered(kind: usize) -> bool {
-    [GAIN_ON, GAIN_DAMPED, THRESHOLD, ONE].contains(&kind)
+/// The limit that calls of a kind are steered to.
+pub fn limit(kind: usize) -> Option<Limit> {
+    match kind {
+        GAIN_ON => Some(Limit::Gain(1.5)),
+        GAIN_DAMPED => Some(Limit::Gain(2.0)),
+        THRESHOLD => Some(Limit::Threshold),
+        ONE => Some(Limit::One),
+        _ => None,
+    }
 }
 
 fn fill(random: &mut Random, row: &Row, kind: usize, lines: &mut [f32]) {
@@ -131,16 +137,11 @@ pub fn draw(
         kind,
         lines: vec![0.0; length],
     };
-    match kind {
-        GAIN_ON => near_gain(random, build, call, 1.5, &mut with),
-        GAIN_DAMPED => near_gain(random, build, call, 2.0, &mut with),
-        THRESHOLD => near_threshold(random, build, call, &mut with),
-        ONE => near_one(random, build, call, &mut with),
-        _ => {
-            fill(random, row, kind, &mut call.lines);
-            with(&call);
-        }
+    if let Some(limit) = limit(kind) {
+        return steer(random, build, limit, call, with);
     }
+    fill(random, row, kind, &mut call.lines);
+    with(&call);
 }
 
 /// Draws a call of any kind, more often one that turns a filter on, and of any
@@ -151,7 +152,7 @@ pub fn draw_any(random: &mut Random, build: &Build, row: &'static Row, with: imp
         _ => random.below(KINDS),
     };
     let length = match random.below(8) {
-        0 => lengths::any(random, row),
+        0 => any_length(random, row),
         _ => random.one_of(&row.offered()),
     };
     draw(random, build, row, kind, length, with);

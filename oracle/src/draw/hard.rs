@@ -1,12 +1,9 @@
 //! Frames that are made to be filtered badly. The encoder chooses its own
 //! coefficients, so a frame can only lean towards large ones.
 
-use crate::document::calls::Encode;
-use crate::document::exact::least_m;
-use crate::document::rows::Row;
-use crate::document::whole;
+use crate::document::{exact::least_m, whole, Encode, Row};
 use crate::draw::random::{two, Random};
-use crate::draw::spectra::scale;
+use crate::draw::spectra::{leaning, scale};
 
 /// The kinds by name; a kind is a place in this list.
 pub const KINDS: [&str; 8] = [
@@ -49,22 +46,11 @@ fn reflection(random: &mut Random) -> [f32; 8] {
     })
 }
 
-/// Noise through the lattice that undoes the encoder's with these coefficients,
-/// so that the analysis finds coefficients like them. The largest line is 1.
-fn leaning(random: &mut Random, band: &mut [f32]) {
-    let reflection = reflection(random);
+/// Lines that lean on such coefficients. The largest is 1.
+fn lean(random: &mut Random, band: &mut [f32]) {
+    let reflection = reflection(random).map(f64::from);
     let order = 1 + random.below(8);
-    let mut state = [0.0f64; 9];
-    let lines = band.iter().map(|_| {
-        let mut t = f64::from(random.unit());
-        for k in (0..order).rev() {
-            t -= f64::from(reflection[k]) * state[k];
-            state[k + 1] = f64::from(reflection[k]) * t + state[k];
-        }
-        state[0] = t;
-        t
-    });
-    let lines: Vec<f64> = lines.collect();
+    let lines = leaning(random, &reflection[..order], band.len());
     let sizes = lines.iter().map(|x| x.abs());
     let largest = sizes.fold(f64::MIN_POSITIVE, f64::max);
     for (line, x) in band.iter_mut().zip(lines) {
@@ -110,7 +96,7 @@ fn fill(random: &mut Random, row: &Row, kind: usize, m: i32, lines: &mut [f32]) 
     let spared = random.below(row.bands.len());
     for (f, (start, stop)) in row.bands.iter().enumerate() {
         let band = &mut lines[*start..*stop];
-        leaning(random, band);
+        lean(random, band);
         match KINDS[kind] {
             "leaning lines cut off at 2^m" => cut_off(random, band),
             "level or alternating lines with turns" => {

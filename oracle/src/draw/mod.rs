@@ -6,8 +6,10 @@ pub mod decoder;
 pub mod encoder;
 #[cfg(feature = "error")]
 pub mod hard;
-pub mod lengths;
-pub mod random;
-pub mod side;
+mod numbers;
+mod random;
 pub mod spectra;
 pub mod steer;
+
+pub use numbers::{any_length, any_side, every_side, length, over};
+pub use random::{say_seed, two, Random, SEED};

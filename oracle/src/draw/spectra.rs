@@ -2,6 +2,7 @@
 //! so that every machine makes the same ones.
 
 use crate::draw::random::{two, Random};
+use std::ops::{Add, Mul, Sub};
 
 /// The kinds by name; a kind is a place in this list.
 pub const KINDS: [&str; 15] = [
@@ -54,24 +55,30 @@ fn speech(random: &mut Random, lines: &mut [f32]) {
     }
 }
 
-/// Each line leans on up to eight lines below it, as the encoder's filter
-/// expects: noise sent through a lattice of random reflection coefficients.
-/// `most` bounds their size.
-pub fn autoregressive(random: &mut Random, lines: &mut [f32], order: usize, most: f32) {
-    let mut reflection = [0.0f32; 8];
-    for q in &mut reflection[..order] {
-        *q = random.unit() * most;
-    }
-    let mut state = [0.0f32; 9];
-    for line in lines {
-        let mut t = random.unit();
-        for k in (0..order).rev() {
-            t -= reflection[k] * state[k];
-            state[k + 1] = reflection[k] * t + state[k];
+/// Noise sent through the lattice that undoes the encoder's, in f32 or f64: each
+/// line leans on as many lines below it as there are coefficients, at most eight,
+/// and the analysis finds coefficients like them.
+pub fn leaning<T>(random: &mut Random, reflection: &[T], length: usize) -> Vec<T>
+where
+    T: Copy + Default + From<f32> + Add<Output = T> + Sub<Output = T> + Mul<Output = T>,
+{
+    let mut state = [T::default(); 9];
+    let lines = (0..length).map(|_| {
+        let mut t = T::from(random.unit());
+        for (k, q) in reflection.iter().enumerate().rev() {
+            t = t - *q * state[k];
+            state[k + 1] = *q * t + state[k];
         }
         state[0] = t;
-        *line = t;
-    }
+        t
+    });
+    lines.collect()
+}
+
+/// Leaning lines of random coefficients. `most` bounds their size.
+pub fn autoregressive(random: &mut Random, lines: &mut [f32], order: usize, most: f32) {
+    let reflection: Vec<f32> = (0..order).map(|_| random.unit() * most).collect();
+    lines.copy_from_slice(&leaning(random, &reflection, lines.len()));
 }
 
 pub fn scale(lines: &mut [f32], by: f32) {

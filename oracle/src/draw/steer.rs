@@ -1,12 +1,11 @@
 //! Encoder calls at a limit of the analysis: two spectra are mixed, and the part
 //! of the second is halved in on until the limit lies between two f32s.
 
-use crate::document::calls::Encode;
-use crate::document::rows::Row;
+use crate::document::{Encode, Row};
 use crate::draw::bands::{bands, coarse};
 use crate::draw::random::Random;
 use crate::draw::spectra::noise;
-use crate::original::build::Build;
+use crate::original::Build;
 
 /// The magnitudes at which the index changes (std build), as the word `tables`
 /// prints them. A build of another toolchain may move by one pattern; the calls
@@ -22,45 +21,71 @@ const THRESHOLDS: [u32; 8] = [
     0x3F7B_A421,
 ];
 
+/// A limit of the analysis.
+pub enum Limit {
+    /// A gain in a random filter.
+    Gain(f32),
+    /// A coefficient at a threshold of the index.
+    Threshold,
+    /// A coefficient of 1 or -1.
+    One,
+}
+
+/// What is mixed: lines that stay, lines whose part grows, and a test of the call
+/// that turns where the limit is.
+type Mix<'a> = (Vec<f32>, Vec<f32>, Box<dyn Fn(&Encode) -> bool + 'a>);
+
 pub fn is_threshold(x: f32) -> bool {
     THRESHOLDS.contains(&x.abs().to_bits())
 }
 
-/// `still + p * moved`, line by line.
-fn mixed(still: &[f32], moved: &[f32], p: f32) -> Vec<f32> {
-    still.iter().zip(moved).map(|(s, m)| s + p * m).collect()
-}
-
-/// The calls for every p around the place where a test of the call turns,
-/// found by halving; none if it does not turn.
-fn steered(
-    mut call: Encode,
-    still: &[f32],
-    moved: &[f32],
-    test: impl Fn(&Encode) -> bool,
-    with: &mut impl FnMut(&Encode),
-) {
-    const TOP: f32 = 64.0;
-    const AROUND: u32 = 8;
-    let mut at = |p: u32| {
-        call.lines = mixed(still, moved, f32::from_bits(p));
-        call.clone()
-    };
-    let (mut low, mut high) = (AROUND, TOP.to_bits());
-    let first = test(&at(low));
-    if test(&at(high)) == first {
-        return;
+/// Where a test of bit patterns turns between two of them, by halving; nothing if
+/// it does not turn.
+pub fn turn(mut low: u32, mut high: u32, test: impl Fn(u32) -> bool) -> Option<u32> {
+    let first = test(low);
+    if test(high) == first {
+        return None;
     }
     while high - low > 1 {
         let middle = low + (high - low) / 2;
-        if test(&at(middle)) == first {
+        if test(middle) == first {
             low = middle;
         } else {
             high = middle;
         }
     }
-    for p in high - AROUND..high + AROUND {
-        with(&at(p));
+    Some(high)
+}
+
+/// The calls for every part around the place where the test turns; none
+/// if it does not.
+pub fn steer(
+    random: &mut Random,
+    build: &Build,
+    limit: Limit,
+    mut call: Encode,
+    mut with: impl FnMut(&Encode),
+) {
+    const TOP: f32 = 64.0;
+    const AROUND: u32 = 8;
+    call.near_nyquist &= matches!(limit, Limit::Gain(_));
+    let mix = match limit {
+        Limit::Gain(gain) => Some(near_gain(random, build, &call, gain)),
+        Limit::Threshold => near_threshold(random, build, &call),
+        Limit::One => Some(near_one(random, build, &call)),
+    };
+    let Some((still, moved, test)) = mix else {
+        return;
+    };
+    let at = |p: u32| {
+        let lines = still.iter().zip(&moved);
+        let lines = lines.map(|(s, m)| s + f32::from_bits(p) * m).collect();
+        call.with_lines(lines)
+    };
+    if let Some(turn) = turn(AROUND, TOP.to_bits(), |p| test(&at(p))) {
+        for p in turn - AROUND..turn + AROUND {
+            with(&at(p));
+        }
     }
 }
 
@@ -73,37 +98,22 @@ fn lean(random: &mut Random, row: &Row, length: usize) -> (Vec<f32>, Vec<f32>) {
 }
 
 /// Calls whose gain in a random filter is the given one or next to it.
-pub fn near_gain(
-    random: &mut Random,
-    build: &Build,
-    call: Encode,
-    gain: f32,
-    with: &mut impl FnMut(&Encode),
-) {
+fn near_gain<'a>(random: &mut Random, build: &'a Build, call: &Encode, gain: f32) -> Mix<'a> {
     let row = call.row;
     let (still, moved) = lean(random, row, call.lines.len());
     let filter = random.below(row.bands.len());
-    let test = |call: &Encode| build.gain(call, filter) > gain;
-    steered(call, &still, &moved, test, with);
+    let test = move |call: &Encode| build.gain(call, filter) > gain;
+    (still, moved, Box::new(test))
 }
 
 /// Two leaning spectra are mixed; a coefficient that moves over a threshold
 /// from the one to the other is taken.
-pub fn near_threshold(
-    random: &mut Random,
-    build: &Build,
-    mut call: Encode,
-    with: &mut impl FnMut(&Encode),
-) {
-    call.near_nyquist = false;
+fn near_threshold<'a>(random: &mut Random, build: &'a Build, call: &Encode) -> Option<Mix<'a>> {
     let row = call.row;
     let (_, still) = lean(random, row, call.lines.len());
     let (_, moved) = lean(random, row, call.lines.len());
-    let mut reflection = |lines: &[f32]| {
-        call.lines.copy_from_slice(lines);
-        build.reflections(&call)
-    };
-    let (from, to) = (reflection(&still), reflection(&moved));
+    let reflections = |lines: &Vec<f32>| build.reflections(&call.with_lines(lines.clone()));
+    let (from, to) = (reflections(&still), reflections(&moved));
     let mut over = Vec::new();
     for place in 0..8 * row.bands.len() {
         for (n, pattern) in THRESHOLDS.iter().enumerate() {
@@ -116,23 +126,17 @@ pub fn near_threshold(
         }
     }
     if over.is_empty() {
-        return;
+        return None;
     }
     let (place, threshold) = random.one_of(&over);
-    let test = |call: &Encode| build.reflections(call)[place].abs() >= threshold;
-    steered(call, &still, &moved, test, with);
+    let test = move |call: &Encode| build.reflections(call)[place].abs() >= threshold;
+    Some((still, moved, Box::new(test)))
 }
 
 /// One coarse subband and two of level lines or waves, with growing noise: the
 /// lag that starts above lag 0 falls below it. Where the two are equal, a
 /// reflection coefficient is exactly 1 or -1.
-pub fn near_one(
-    random: &mut Random,
-    build: &Build,
-    mut call: Encode,
-    with: &mut impl FnMut(&Encode),
-) {
-    call.near_nyquist = false;
+fn near_one<'a>(random: &mut Random, build: &'a Build, call: &Encode) -> Mix<'a> {
     let row = call.row;
     let length = call.lines.len();
     let (mut still, mut moved) = (vec![0.0; length], vec![0.0; length]);
@@ -146,10 +150,9 @@ pub fn near_one(
                 coarse(random, &mut still[start..stop], step);
                 continue;
             }
-            let turn = if waves {
-                1.55 + 0.45 * random.unit()
-            } else {
-                2.0
+            let turn = match waves {
+                true => 1.55 + 0.45 * random.unit(),
+                false => 2.0,
             };
             let (mut before, mut now) = (1.0, 1.0);
             for line in (start..stop).step_by(step) {
@@ -166,9 +169,9 @@ pub fn near_one(
             }
         }
     }
-    let test = |call: &Encode| {
+    let test = move |call: &Encode| {
         let lags = (build.lags)(row.duration, row.bandwidth, filter, &call.lines);
         lags[step].abs() >= lags[0]
     };
-    steered(call, &still, &moved, test, with);
+    (still, moved, Box::new(test))
 }

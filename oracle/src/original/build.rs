@@ -1,8 +1,7 @@
 //! The two builds of the original behind one type.
 //! Assumes that both crates come from the same text (`original/lib.rs`).
 
-use crate::document::calls::Encoded;
-use crate::document::side::Side;
+use crate::document::{Encoded, Side};
 use std::hint::black_box;
 
 /// D's public function: duration code, bandwidth, filters, orders, indices,

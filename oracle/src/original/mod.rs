@@ -1,7 +1,10 @@
 //! What calls the original: its two builds behind one type, and what they say to
 //! a call. What builds it lies beside the harness, in `original/` of the oracle.
 
-pub mod build;
-pub mod caught;
-pub mod decoder;
-pub mod encoder;
+mod answers;
+mod build;
+mod caught;
+
+pub use answers::How;
+pub use build::{both, Build};
+pub use caught::caught;

@@ -1,8 +1,6 @@
 //! The port's decoder.
 
-use crate::document::refusals::Answer;
-use crate::document::rows::Row;
-use crate::document::side::Side;
+use crate::document::{Answer, Row, Side};
 use crate::port::lent::Lent;
 
 extern "C" {

@@ -1,8 +1,6 @@
 //! The port's encoder.
 
-use crate::document::calls::{Encode, Encoded};
-use crate::document::refusals::Answer;
-use crate::document::side::Side;
+use crate::document::{Answer, Encode, Encoded, Side};
 use crate::port::lent::{Guarded, Lent};
 
 extern "C" {

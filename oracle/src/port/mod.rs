@@ -4,7 +4,13 @@
 //! document 01 refuses, and lend memory of their own, where no guards lie.
 
 #[cfg(any(feature = "decode", feature = "lc3"))]
-pub mod decoder;
+mod decoder;
 #[cfg(any(feature = "encode", feature = "lc3"))]
-pub mod encoder;
-pub mod lent;
+mod encoder;
+mod lent;
+
+#[cfg(any(feature = "decode", feature = "lc3"))]
+pub use decoder::{decode, decode_lines};
+#[cfg(any(feature = "encode", feature = "lc3"))]
+pub use encoder::{encode_lines, Loan};
+pub use lent::Lent;

@@ -2,16 +2,14 @@
 //! ordinary spectra. It arranges its float operations in its own way, so what
 //! differs is counted and nothing is demanded.
 
-use crate::document::calls::Encode;
-use crate::document::rows::{Row, ROWS};
-use crate::draw::encoder::{draw, ACTIVE, GAIN_DAMPED, GAIN_ON, THRESHOLD};
-use crate::draw::random::{Random, SEED};
-use crate::draw::side;
+use crate::document::{Encode, Row, ROWS};
+use crate::draw::{
+    any_side, encoder::draw, encoder::ACTIVE, encoder::GAIN_DAMPED, encoder::GAIN_ON,
+    encoder::THRESHOLD, Random, SEED,
+};
 use crate::liblc3::{analyze, nbits, synthesize, Data};
-use crate::original::build::{both, Build};
-use crate::port::decoder::decode;
-use crate::port::encoder::Loan;
-use crate::port::lent::Lent;
+use crate::original::{both, Build};
+use crate::port::{decode, Lent, Loan};
 
 const FRAMES: usize = 200_000;
 /// Draws steered to a limit of the analysis; each gives several frames.
@@ -20,12 +18,10 @@ const COSTS: usize = 1_000_000;
 
 /// The largest difference of two lists of lines, by the largest line.
 fn apart(a: &[f32], b: &[f32]) -> f64 {
-    let largest = a
-        .iter()
-        .fold(0.0f64, |most, x| most.max(f64::from(x.abs())));
-    let difference = a.iter().zip(b).fold(0.0f64, |most, (x, y)| {
-        most.max((f64::from(*x) - f64::from(*y)).abs())
-    });
+    let most = |sizes: &mut dyn Iterator<Item = f64>| sizes.fold(0.0f64, f64::max);
+    let largest = most(&mut a.iter().map(|x| f64::from(x.abs())));
+    let pairs = a.iter().zip(b);
+    let difference = most(&mut pairs.map(|(x, y)| (f64::from(*x) - f64::from(*y)).abs()));
     if largest == 0.0 {
         difference
     } else {
@@ -81,20 +77,19 @@ impl Tally {
     }
 
     fn print_encoder(&self, what: &str) {
-        println!(
-            "lc3: encoder: {what}: {} frames, {} with a filter on; side data differ: weighting or filters {}, on or off {}, orders {}, indices {}; where they agree bits differ in {}, lines are the same in {} and at most {:.1e} of the largest line apart; left out, energies' product underflows: {}, {} of them differ",
-            self.frames,
-            self.active,
-            self.heads,
-            self.on_off,
-            self.orders,
-            self.indices,
-            self.bits,
-            self.identical,
-            self.apart,
-            self.underflow[0],
-            self.underflow[1]
-        );
+        let Tally {
+            frames,
+            active,
+            heads,
+            on_off,
+            orders,
+            indices,
+            bits,
+            identical,
+            apart,
+            underflow: [left_out, differ],
+        } = self;
+        println!("lc3: encoder: {what}: {frames} frames, {active} with a filter on; side data differ: weighting or filters {heads}, on or off {on_off}, orders {orders}, indices {indices}; where they agree bits differ in {bits}, lines are the same in {identical} and at most {apart:.1e} of the largest line apart; left out, energies' product underflows: {left_out}, {differ} of them differ");
     }
 
     fn compare(&mut self, theirs: &[f32], ours: &[f32]) {
@@ -103,7 +98,7 @@ impl Tally {
     }
 
     fn decoder(&mut self, random: &mut Random, row: &Row, lines: &[f32]) {
-        let mut side = side::any(random, row.bands.len());
+        let mut side = any_side(random, row.bands.len());
         // A used index 0 is no coefficient here, and a real one in liblc3.
         for index in &mut side.indices {
             *index = (*index).max(1);
@@ -151,7 +146,7 @@ fn costs(build: &Build) {
     let mut differ = 0;
     for _ in 0..COSTS {
         let filters = 1 + random.below(2);
-        let side = side::any(random, filters);
+        let side = any_side(random, filters);
         differ += usize::from(nbits(&Data::of(&side)) != build.bits(&side));
     }
     println!("lc3: bits of {COSTS} random side data: liblc3 differs from E in {differ}");
@@ -204,14 +199,9 @@ pub fn run() -> bool {
     }
     limits.print_encoder("steered to the limits of gain and index, all rows");
     for (row, tally) in ROWS.iter().zip(&decoder) {
-        println!(
-            "lc3: decoder: {}: {} frames, {} with a filter acting; lines are the same in {} and at most {:.1e} of the largest line apart",
-            row.name(),
-            tally.frames,
-            tally.active,
-            tally.identical,
-            tally.apart
-        );
+        let (name, frames, active) = (row.name(), tally.frames, tally.active);
+        let (identical, apart) = (tally.identical, tally.apart);
+        println!("lc3: decoder: {name}: {frames} frames, {active} with a filter acting; lines are the same in {identical} and at most {apart:.1e} of the largest line apart");
     }
     true
 }

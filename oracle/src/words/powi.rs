@@ -1,9 +1,9 @@
 //! The word `powi`: gamma.powi(k) as E computes it against document 01's
 //! product rule, for every f32 gamma from 0.8 to 1 and k from 0 to 8.
 
-use crate::compare::differing::Differing;
+use crate::compare::Differing;
 use crate::document::rules;
-use crate::original::build::both;
+use crate::original::both;
 use std::hint::black_box;
 
 pub fn run() -> bool {

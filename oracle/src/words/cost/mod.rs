@@ -1,17 +1,13 @@
 //! The word `cost`: E's bit budget against document 01's whole-number rule,
 //! against the program ./tns, and at the inputs that document 01 refuses.
 
-mod every;
 mod program;
 mod strange;
 
-use crate::compare::differing::Differing;
-use crate::document::rules;
-use crate::document::side::Side;
-use crate::draw::random::{say_seed, Random, SEED};
-use crate::draw::side;
-use crate::original::build::{both, Build};
-use crate::words::cost::every::every;
+use crate::compare::Differing;
+use crate::document::{rules, Side};
+use crate::draw::{any_side, every_side, say_seed, Random, SEED};
+use crate::original::{both, Build};
 use std::path::Path;
 
 const RANDOM: u64 = 20_000_000;
@@ -45,12 +41,12 @@ impl Tally {
 
 fn against_rule(build: &Build) -> bool {
     let mut tally = Tally::default();
-    every(6, |side| tally.take(build, side));
+    every_side(6, |side| tally.take(build, side));
     let mut good = tally.print(build, "one filter, every pattern of orders 0..6");
     let mut tally = Tally::default();
     let mut random = Random(SEED);
     for _ in 0..RANDOM {
-        tally.take(build, &side::any(&mut random, 2));
+        tally.take(build, &any_side(&mut random, 2));
     }
     good &= tally.print(build, "two filters, random");
     good

@@ -2,12 +2,10 @@
 //! Assumes that the program reads 20-byte records and writes one line for each,
 //! `frame N: B bits`. The variable TNS names another program to run instead.
 
-use crate::compare::differing::Differing;
-use crate::document::side::Side;
-use crate::draw::random::{Random, SEED};
-use crate::draw::side;
-use crate::original::build::Build;
-use crate::words::cost::every::every;
+use crate::compare::Differing;
+use crate::document::Side;
+use crate::draw::{any_side, every_side, Random, SEED};
+use crate::original::Build;
 use std::io::{BufRead, BufReader, BufWriter, Write};
 use std::path::Path;
 use std::process::{Command, Stdio};
@@ -17,14 +15,14 @@ const ANY_COUNT: u64 = 100_000;
 
 /// The records in their fixed order; asked for twice, to write and to compare.
 fn records(mut with: impl FnMut(&Side)) {
-    every(4, &mut with);
+    every_side(4, &mut with);
     let mut random = Random(SEED);
     for _ in 0..RANDOM {
-        with(&side::any(&mut random, 2));
+        with(&any_side(&mut random, 2));
     }
     for _ in 0..ANY_COUNT {
         let filters = random.below(3);
-        with(&side::any(&mut random, filters));
+        with(&any_side(&mut random, filters));
     }
 }
 

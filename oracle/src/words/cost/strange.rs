@@ -1,8 +1,8 @@
 //! What E and D (std build) do with input that document 01 refuses or changes.
 
-use crate::compare::strange::{decoder, line, Given};
-use crate::document::rows::ROWS;
-use crate::original::build::Build;
+use crate::compare::{strange::decoder, strange::line, strange::Given};
+use crate::document::ROWS;
+use crate::original::Build;
 use original_std::common::config::{FrameDuration, Lc3Config};
 use original_std::encoder::temporal_noise_shaping::TemporalNoiseShaping;
 use std::hint::black_box;

@@ -5,17 +5,11 @@
 mod refusals;
 mod strange;
 
-use crate::compare::differing::Differing;
-use crate::compare::lines::{first_change, first_difference};
-use crate::document::calls::Decode;
-use crate::document::refusals::ACCEPTED;
-use crate::document::rows::ROWS;
-use crate::draw::decoder;
-use crate::draw::random::{say_seed, Random, SEED};
-use crate::draw::spectra::KINDS;
-use crate::original::build::{both, Build};
-use crate::port::decoder::decode;
-use crate::port::lent::Lent;
+use crate::compare::{first_change, first_difference, Differing};
+use crate::document::{Decode, ACCEPTED, ROWS};
+use crate::draw::{decoder, say_seed, spectra::KINDS, Random, SEED};
+use crate::original::{both, Build};
+use crate::port::{decode, Lent};
 
 const CALLS: [usize; 2] = [1_200_000, 200_000];
 
@@ -80,15 +74,9 @@ impl Tally {
     /// What was called, row by row.
     fn print_rows(&self, name: &str) {
         for (row, of) in ROWS.iter().zip(&self.rows) {
-            print!(
-                "decode: {name}: {}: {} calls, {} of {} lines, {} of {}; acted with order 1..8:",
-                row.name(),
-                of.calls,
-                of.shortest,
-                row.last_stop(),
-                of.longest,
-                row.longest()
-            );
+            let (stop, most, row_name) = (row.last_stop(), row.longest(), row.name());
+            let (calls, shortest, longest) = (of.calls, of.shortest, of.longest);
+            print!("decode: {name}: {row_name}: {calls} calls, {shortest} of {stop} lines, {longest} of {most}; acted with order 1..8:");
             for (filter, acted) in of.acted.iter().enumerate().take(row.bands.len()) {
                 print!(" filter {filter} {:?}", &acted[1..]);
             }
@@ -99,12 +87,18 @@ impl Tally {
         println!("decode: {name}: spectra: {}", kinds.join(", "));
     }
 
-    fn print(&self, build: &Build) -> bool {
-        println!(
-            "decode: {}: D against tns_decode: {} calls compared, {} changed a line; {} differ, {} not accepted, {} changed a line outside the acting bands, {} wrote beyond the lines",
-            build.name, self.calls, self.moved, self.differ.0, self.not_accepted, self.touched, self.guards
-        );
-        self.differ.0 + self.not_accepted + self.touched + self.guards == 0
+    fn print(&self, name: &str) -> bool {
+        let Tally {
+            calls,
+            differ: Differing(differ),
+            not_accepted,
+            touched,
+            guards,
+            moved,
+            ..
+        } = self;
+        println!("decode: {name}: D against tns_decode: {calls} calls compared, {moved} changed a line; {differ} differ, {not_accepted} not accepted, {touched} changed a line outside the acting bands, {guards} wrote beyond the lines");
+        differ + not_accepted + touched + guards == 0
     }
 }
 
@@ -133,7 +127,7 @@ pub fn run() -> bool {
         if build.name == "std" {
             tally.print_rows(build.name);
         }
-        good &= tally.print(build);
+        good &= tally.print(build.name);
     }
     good &= refusals::run(&builds[0]);
     strange::run(&builds[0]);

@@ -2,15 +2,11 @@
 //! against its table; the lines must stay as they were, NaN bits included. Calls
 //! that turn out accepted are compared with D.
 
-use crate::compare::lines::{first_change, first_difference};
-use crate::compare::refusals::{Tally, Words};
-use crate::document::refusals::{self, Answer, ACCEPTED};
-use crate::document::rows::{Row, ROWS};
-use crate::draw::lengths;
-use crate::draw::random::{Random, SEED};
-use crate::original::build::Build;
-use crate::port::decoder::decode_lines;
-use crate::port::lent::Lent;
+use crate::compare::{first_change, first_difference, refusals::Tally};
+use crate::document::{refusals, Answer, Row, ACCEPTED, ROWS};
+use crate::draw::{any_length, over, Random, SEED};
+use crate::original::Build;
+use crate::port::{decode_lines, Lent};
 
 /// Draws for each set of faults and each row.
 const DRAWS: usize = 100;
@@ -24,11 +20,6 @@ struct Input {
     orders: Vec<u8>,
     indices: Vec<u8>,
     length: usize,
-}
-
-/// A number over `most`.
-fn over(random: &mut Random, most: usize) -> u8 {
-    (most + 1 + random.below(255 - most)) as u8
 }
 
 /// A byte list of random length, but not `but`.
@@ -47,7 +38,7 @@ impl Input {
             filters: random.below(3) as u8,
             orders: (0..2).map(|_| random.below(9) as u8).collect(),
             indices: (0..16).map(|_| random.below(17) as u8).collect(),
-            length: lengths::any(random, row),
+            length: any_length(random, row),
         }
     }
 
@@ -116,25 +107,21 @@ impl Calls<'_> {
             duration,
             bandwidth,
             filters,
-            orders,
-            indices,
             length,
-        } = input;
+            ..
+        } = *input;
+        let (orders, indices) = (&input.orders, &input.indices);
         let wanted = input.by_table();
         // Any bit patterns, so that an untouched NaN is seen to be untouched.
-        let before: Vec<f32> = (0..*length)
-            .map(|_| f32::from_bits(self.random.pattern()))
-            .collect();
+        let mut line = || f32::from_bits(self.random.pattern());
+        let before: Vec<f32> = (0..length).map(|_| line()).collect();
         let mut lent = Lent::new(&before);
-        let lines = lent.lend();
-        let given = decode_lines(*duration, *bandwidth, *filters, orders, indices, lines);
+        let given = decode_lines(duration, bandwidth, filters, orders, indices, lent.lend());
         let other = if wanted == ACCEPTED {
             let mut lines = before;
             let wide = |list: &[u8]| list.iter().map(|n| *n as usize).collect::<Vec<_>>();
-            let (filters, orders, indices) = (*filters as usize, wide(orders), wide(indices));
-            (self.build.decode)(
-                *duration, *bandwidth, filters, &orders, &indices, &mut lines,
-            );
+            let (filters, orders, indices) = (filters as usize, wide(orders), wide(indices));
+            (self.build.decode)(duration, bandwidth, filters, &orders, &indices, &mut lines);
             first_difference(&lines, lent.list())
         } else {
             first_change(&before, lent.list())
@@ -233,11 +220,5 @@ pub fn run(build: &Build) -> bool {
     each_alone(&mut calls, &mut random);
     together(&mut calls, &mut random);
     any(&mut calls, &mut random);
-    calls.tally.print(&Words {
-        word: "decode",
-        most: 7,
-        touched: "a line",
-        beyond: "the lines",
-        original: "D",
-    })
+    calls.tally.print("decode", 7, ["a line", "the lines", "D"])
 }

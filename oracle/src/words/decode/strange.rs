@@ -2,9 +2,9 @@
 //! the word `cost` shows. D takes the duration and the bandwidth as enums, so
 //! refusals 1 and 2 have no like there.
 
-use crate::compare::strange::{decoder, Given};
-use crate::document::rows::{Row, ROWS};
-use crate::original::build::Build;
+use crate::compare::{strange::decoder, strange::Given};
+use crate::document::{Row, ROWS};
+use crate::original::Build;
 
 /// Which lines are no longer 1.
 fn changed(lines: &[f32]) -> String {

@@ -4,18 +4,12 @@
 
 mod refusals;
 
-use crate::compare::differing::Differing;
-use crate::compare::lines::first_difference;
-use crate::compare::outcomes::difference;
-use crate::document::calls::{Encode, Outcome};
-use crate::document::refusals::{Answer, ACCEPTED};
-use crate::document::rows::ROWS;
+use crate::compare::{difference, first_difference, Differing};
+use crate::document::{Answer, Encode, Outcome, ACCEPTED, ROWS};
 use crate::draw::encoder::{self, draw, draw_any, GAIN_DAMPED, GAIN_ON, KINDS, THRESHOLD};
-use crate::draw::random::{say_seed, Random, SEED};
-use crate::draw::steer::is_threshold;
-use crate::original::build::{both, Build};
-use crate::original::encoder::How;
-use crate::port::encoder::Loan;
+use crate::draw::{say_seed, steer::is_threshold, Random, SEED};
+use crate::original::{both, Build, How};
+use crate::port::Loan;
 use std::collections::BTreeMap;
 
 const DRAWS: usize = 250_000;
@@ -155,61 +149,49 @@ impl Tally {
 
     fn print(&self) -> bool {
         for (row, of) in ROWS.iter().zip(&self.rows) {
-            let lengths: Vec<String> = of
+            let (name, frames, active) = (row.name(), of.frames, of.active);
+            let lengths = of
                 .lengths
                 .iter()
-                .map(|(length, count)| format!("{count} of {length} lines"))
-                .collect();
-            print!(
-                "encode: {}: {} frames ({}, {} of other lengths), {} with a filter on; orders 0..8:",
-                row.name(),
-                of.frames,
-                lengths.join(", "),
-                of.other_lengths,
-                of.active
-            );
+                .map(|(n, count)| format!("{count} of {n} lines, "));
+            let (lengths, others): (String, u64) = (lengths.collect(), of.other_lengths);
+            print!("encode: {name}: {frames} frames ({lengths}{others} of other lengths), {active} with a filter on; orders 0..8:");
             for (filter, counts) in of.orders.iter().enumerate().take(row.bands.len()) {
                 print!(" filter {filter} {counts:?}");
             }
             println!();
         }
-        let kinds: Vec<String> = (0..KINDS)
-            .map(|kind| {
-                let [frames, active] = self.kinds[kind];
-                format!("{} {frames} ({active})", encoder::name(kind))
-            })
-            .collect();
-        println!(
-            "encode: frames by kind (with a filter on): {}",
-            kinds.join(", ")
-        );
-        println!(
-            "encode: gains at most 8 f32s from the limit, below, at and above it: 1.5 {:?}, 2 {:?}; frames with a coefficient exactly at a threshold: {}",
-            self.gains[0], self.gains[1], self.at_threshold
-        );
-        println!(
-            "encode: 10 ms bandwidth 2 with the filter on: {} frames, lines below 200 compared with E, lines 200 to 239 with its lattice run on; that lattice differs from E in {} frames of the other rows",
-            self.run_on, self.rule_differs
-        );
-        println!(
-            "encode: coefficient exactly 1 or -1, E panics, compared with document 01: {} frames with 1, {} with -1; other panics of E {}",
-            self.at_one[0], self.at_one[1], self.unknown_panics
-        );
-        println!(
-            "encode: libm differs from std in {} frames, {} of them without a coefficient of 3DBCF730 or 3F1A4643 in size",
-            self.builds_differ, self.builds_differ_elsewhere
-        );
+        let kinds = self
+            .kinds
+            .iter()
+            .enumerate()
+            .map(|(kind, [frames, active])| {
+                let name = encoder::name(kind);
+                format!("{name} {frames} ({active})")
+            });
+        let kinds = kinds.collect::<Vec<_>>().join(", ");
+        println!("encode: frames by kind (with a filter on): {kinds}");
+        let Tally {
+            frames,
+            differ: Differing(differ),
+            guards,
+            unknown_panics,
+            run_on,
+            at_one: [one, minus_one],
+            rule_differs,
+            builds_differ,
+            builds_differ_elsewhere,
+            gains: [on, damped],
+            at_threshold,
+            ..
+        } = self;
+        println!("encode: gains at most 8 f32s from the limit, below, at and above it: 1.5 {on:?}, 2 {damped:?}; frames with a coefficient exactly at a threshold: {at_threshold}");
+        println!("encode: 10 ms bandwidth 2 with the filter on: {run_on} frames, lines below 200 compared with E, lines 200 to 239 with its lattice run on; that lattice differs from E in {rule_differs} frames of the other rows");
+        println!("encode: coefficient exactly 1 or -1, E panics, compared with document 01: {one} frames with 1, {minus_one} with -1; other panics of E {unknown_panics}");
+        println!("encode: libm differs from std in {builds_differ} frames, {builds_differ_elsewhere} of them without a coefficient of 3DBCF730 or 3F1A4643 in size");
         let active: u64 = self.rows.iter().map(|row| row.active).sum();
-        println!(
-            "encode: E (std) against tns_encode: {} frames compared, {active} with a filter on; {} differ, {} wrote beyond what was lent",
-            self.frames, self.differ.0, self.guards
-        );
-        self.differ.0
-            + self.guards
-            + self.unknown_panics
-            + self.rule_differs
-            + self.builds_differ_elsewhere
-            == 0
+        println!("encode: E (std) against tns_encode: {frames} frames compared, {active} with a filter on; {differ} differ, {guards} wrote beyond what was lent");
+        differ + guards + unknown_panics + rule_differs + builds_differ_elsewhere == 0
     }
 }
 
@@ -220,7 +202,7 @@ fn systematic(tally: &mut Tally, builds: &[Build; 2], random: &mut Random) {
         let around = row.limit() - 2..=row.limit() + 2;
         for length in row.offered() {
             for bits in around.clone().chain([0, u64::MAX]) {
-                for kind in (0..KINDS).filter(|k| !encoder::is_steered(*k)) {
+                for kind in (0..KINDS).filter(|k| encoder::limit(*k).is_none()) {
                     draw(random, &builds[0], row, kind, length, |call| {
                         for near_nyquist in [false, true] {
                             let call = Encode {
@@ -245,9 +227,8 @@ pub fn run() -> bool {
     systematic(&mut tally, &builds, &mut random);
     for n in 0..DRAWS {
         let row = &ROWS[n % ROWS.len()];
-        draw_any(&mut random, &builds[0], row, |call| {
-            tally.take(&builds, call)
-        });
+        let take = |call: &Encode| tally.take(&builds, call);
+        draw_any(&mut random, &builds[0], row, take);
     }
     let good = tally.print();
     refusals::run(&builds[0]) && good

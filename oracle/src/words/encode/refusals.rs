@@ -2,15 +2,11 @@
 //! coefficients must stay as they were. Calls that turn out accepted are compared
 //! with E.
 
-use crate::compare::lines::first_change;
-use crate::compare::outcomes::difference;
-use crate::compare::refusals::{Tally, Words};
-use crate::document::calls::{Encode, Outcome};
-use crate::document::refusals::{spectrum, ACCEPTED};
-use crate::document::rows::{Row, ROWS};
-use crate::draw::random::{Random, SEED};
-use crate::original::build::Build;
-use crate::port::encoder::Loan;
+use crate::compare::{difference, first_change, refusals::Tally};
+use crate::document::{refusals::spectrum, Encode, Outcome, Row, ACCEPTED, ROWS};
+use crate::draw::{over, Random, SEED};
+use crate::original::Build;
+use crate::port::Loan;
 
 /// Draws for each set of faults and each row.
 const DRAWS: usize = 1000;
@@ -74,10 +70,10 @@ pub fn run(build: &Build) -> bool {
             for _ in 0..DRAWS {
                 let mut at = (duration, bandwidth, row.longest());
                 if faults & 1 != 0 {
-                    at.0 = 2 + random.below(254) as u8;
+                    at.0 = over(random, 1);
                 }
                 if faults & 2 != 0 {
-                    at.1 = 5 + random.below(251) as u8;
+                    at.1 = over(random, 4);
                 }
                 if faults & 4 != 0 {
                     at.2 = [
@@ -92,11 +88,6 @@ pub fn run(build: &Build) -> bool {
             }
         }
     }
-    tally.print(&Words {
-        word: "encode",
-        most: 3,
-        touched: "a line, side byte or coefficient",
-        beyond: "what was lent",
-        original: "E",
-    })
+    let changed = "a line, side byte or coefficient";
+    tally.print("encode", 3, [changed, "what was lent", "E"])
 }

@@ -2,11 +2,9 @@
 //! f32 lattice and its exact lattice, to be worked again there with Python's
 //! whole numbers. One case a line, in words parted by spaces.
 
-use crate::document::exact;
-use crate::document::rules::Filters;
-use crate::document::whole::Whole;
-use crate::draw::random::{two, Random, SEED};
-use crate::original::build::Build;
+use crate::document::{exact, whole::Whole, Filters};
+use crate::draw::{two, Random, SEED};
+use crate::original::Build;
 use crate::words::error::chosen::{coefficients, indices, CHOICES};
 use std::path::Path;
 
@@ -40,7 +38,7 @@ fn case(random: &mut Random, table: &[f32; 17]) -> String {
         coefficients,
     };
     let after = filters.filtered(&before);
-    let exact = exact::lattice(&filters, &before);
+    let exact = exact::lines(&filters, &before);
     let number = |n: &usize| format!("{n}");
     let pattern = |x: &f32| format!("{:x}", x.to_bits());
     let mut words: Vec<String> = orders.iter().map(number).collect();

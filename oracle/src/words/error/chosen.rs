@@ -1,7 +1,8 @@
 //! Coefficients by choice, which the encoder need not ever choose.
 
-use crate::draw::random::Random;
-use crate::original::build::Build;
+use crate::document::rules::lattice;
+use crate::draw::Random;
+use crate::original::Build;
 
 /// E's seventeen coefficients by index. They come from its quantization of
 /// values all over -1..1.
@@ -39,19 +40,15 @@ pub fn indices(random: &mut Random, choice: usize) -> [usize; 8] {
 /// filtered line has the same sign. The lattice is the sum of the lines times
 /// the numbers of its answer to a single 1.
 pub fn growing(q: &[f32; 8]) -> [f32; 9] {
-    let mut state = [0.0f64; 8];
+    let q = q.map(f64::from);
+    let mut state = [0.0; 8];
     let mut signs = [1.0; 9];
-    for n in 0..9 {
+    // The answer n lines later weighs the line n lines before.
+    for (n, sign) in signs.iter_mut().rev().enumerate() {
         let line = if n == 0 { 1.0 } else { 0.0 };
-        let (mut t, mut b) = (line, line);
-        for (state, q) in state.iter_mut().zip(q) {
-            let (q, old) = (f64::from(*q), *state);
-            *state = b;
-            b = q * t + old;
-            t += q * old;
+        if lattice(&q, &mut state, line, |a, q, x| a + q * x) < 0.0 {
+            *sign = -1.0;
         }
-        // The answer n lines later weighs the line n lines before.
-        signs[8 - n] = if t < 0.0 { -1.0 } else { 1.0 };
     }
     signs
 }

@@ -1,6 +1,6 @@
 //! How both searches climb towards the bound.
 
-use crate::draw::random::{two, Random};
+use crate::draw::{two, Random};
 
 /// Keeps what has the larger part, the earlier of two that are as large.
 pub fn keep_best<T>(best: &mut Option<(f64, T)>, part: f64, found: impl FnOnce() -> T) {

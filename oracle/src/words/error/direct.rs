@@ -2,10 +2,9 @@
 //! lines, which the encoder need not ever choose together. The families of frames
 //! show that this lattice is the port's.
 
-use crate::document::exact::{LEAST, MOST};
-use crate::document::rules::Filters;
-use crate::draw::random::{two, Random, SEED};
-use crate::original::build::Build;
+use crate::document::{exact::LEAST, exact::MOST, Filters};
+use crate::draw::{two, Random, SEED};
+use crate::original::Build;
 use crate::words::error::chosen::{coefficients, growing, indices, CHOICES};
 use crate::words::error::family::Family;
 

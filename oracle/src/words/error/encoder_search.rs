@@ -4,14 +4,12 @@
 //! sort are not measured and not counted; all others are. What is found at m = 0
 //! is then carried to every m by a power of two.
 
-use crate::document::calls::Encode;
-use crate::document::exact::{LEAST, MOST};
-use crate::document::rows::{Row, ROWS};
-use crate::draw::encoder::{draw, ONE};
-use crate::draw::hard::{self, scaled, COARSE};
-use crate::draw::random::{two, Random, SEED};
-use crate::original::build::Build;
-use crate::port::encoder::Loan;
+use crate::document::{exact::LEAST, exact::MOST, Encode, Row, ROWS};
+use crate::draw::{
+    encoder::draw, encoder::ONE, hard, hard::scaled, hard::COARSE, two, Random, SEED,
+};
+use crate::original::Build;
+use crate::port::Loan;
 use crate::words::error::climb::{climb, keep_best, moved};
 use crate::words::error::family::Family;
 

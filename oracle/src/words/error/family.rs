@@ -1,11 +1,9 @@
 //! The frames of one family, and how far their filtered lines lie from the exact
 //! lattice.
 
-use crate::compare::lines::{first_change, first_difference};
-use crate::document::calls::Encode;
-use crate::document::exact::{self, LEAST, MOST};
-use crate::document::rules::Filters;
-use crate::port::encoder::Loan;
+use crate::compare::{first_change, first_difference};
+use crate::document::{exact, exact::LEAST, exact::MOST, Encode, Filters};
+use crate::port::Loan;
 use crate::words::error::climb::keep_best;
 
 /// How many m there are.
@@ -149,39 +147,36 @@ impl Family {
     }
 
     pub fn print(&self) -> bool {
-        let name = self.name;
+        let Family {
+            name,
+            frames,
+            not_finite,
+            too_large,
+            refused,
+            differ,
+            compared,
+            outside,
+            broken,
+            at,
+            ..
+        } = self;
         let active = self.active();
-        println!(
-            "error: {name}: {} frames, {active} with a filter on; left out: {} with a line in the bands that is not finite, {} with one beyond 2^{MOST}, {} refused; {} break the bound",
-            self.frames, self.not_finite, self.too_large, self.refused, self.broken
-        );
-        if self.compared > 0 {
-            println!(
-                "error: {name}: the harness's f32 lattice against tns_encode, bit by bit: {} frames compared, {} differ, {} changed a line outside the bands",
-                self.compared, self.differ, self.outside
-            );
+        println!("error: {name}: {frames} frames, {active} with a filter on; left out: {not_finite} with a line in the bands that is not finite, {too_large} with one beyond 2^{MOST}, {refused} refused; {broken} break the bound");
+        if *compared > 0 {
+            println!("error: {name}: the harness's f32 lattice against tns_encode, bit by bit: {compared} frames compared, {differ} differ, {outside} changed a line outside the bands");
         }
-        if let Some((_, (best, what))) = &self.best {
-            println!(
-                "error: {name}: largest part {:.4}: {what}, m {}, orders {} {}, line {}",
-                best.part, best.m, best.orders[0], best.orders[1], best.line
-            );
+        if let Some((part, (best, what))) = &self.best {
+            let ([first, second], m, line) = (best.orders, best.m, best.line);
+            println!("error: {name}: largest part {part:.4}: {what}, m {m}, orders {first} {second}, line {line}");
         }
         let on = |at: &At| at.active > 0;
-        let (low, high) = (self.at.iter().position(on), self.at.iter().rposition(on));
-        if let (Some(low), Some(high)) = (low, high) {
-            let (least, most) = (&self.at[0], &self.at[SPAN - 1]);
-            println!(
-                "error: {name}: least m with a filter on {}, largest {}; filters on at m {LEAST}: {} of {} frames, at m {MOST}: {} of {}",
-                low as i32 + LEAST,
-                high as i32 + LEAST,
-                least.active,
-                least.frames,
-                most.active,
-                most.frames
-            );
+        if let (Some(low), Some(high)) = (at.iter().position(on), at.iter().rposition(on)) {
+            let (low, high) = (low as i32 + LEAST, high as i32 + LEAST);
+            let said = |at: &At, frames: &str| format!("{} of {}{frames}", at.active, at.frames);
+            let (least, most) = (said(&at[0], " frames"), said(&at[SPAN - 1], ""));
+            println!("error: {name}: least m with a filter on {low}, largest {high}; filters on at m {LEAST}: {least}, at m {MOST}: {most}");
         }
-        self.broken + self.differ + self.outside + self.refused == 0 && active > 0
+        broken + differ + outside + refused == 0 && active > 0
     }
 
     /// The family's cell of the table.

@@ -13,8 +13,8 @@ mod frames;
 mod search;
 
 use crate::document::exact::LEAST;
-use crate::draw::random::say_seed;
-use crate::original::build::both;
+use crate::draw::say_seed;
+use crate::original::both;
 use crate::words::error::family::{Family, SPAN};
 use std::path::Path;
 

@@ -6,11 +6,9 @@
 //! The number of steps is fixed, and every step is measured and counted. What is
 //! found at m = 0 is then carried to every m by a power of two.
 
-use crate::document::exact::{LEAST, MOST};
-use crate::document::rules::Filters;
-use crate::draw::hard::times_two;
-use crate::draw::random::{two, Random, SEED};
-use crate::original::build::Build;
+use crate::document::{exact::LEAST, exact::MOST, Filters};
+use crate::draw::{hard::times_two, Random, SEED};
+use crate::original::Build;
 use crate::words::error::chosen::{coefficients, growing, indices, CHOICES};
 use crate::words::error::climb::{climb, keep_best, moved};
 use crate::words::error::family::Family;
@@ -40,11 +38,19 @@ struct Nine {
     lines: [f32; 9],
 }
 
+/// A search that starts from one choice of coefficients.
+struct Search<'a> {
+    random: &'a mut Random,
+    family: &'a mut Family,
+    table: &'a [f32; 17],
+    choice: usize,
+}
+
 impl Nine {
-    fn new(random: &mut Random, table: &[f32; 17], choice: usize, m: i32) -> Nine {
+    fn new(random: &mut Random, table: &[f32; 17], choice: usize) -> Nine {
         let indices = indices(random, choice);
         let signs = growing(&indices.map(|n| table[n]));
-        let lines = signs.map(|sign| moved(random, sign * two(m), m));
+        let lines = signs.map(|sign| moved(random, sign, 0));
         Nine { indices, lines }
     }
 
@@ -77,22 +83,17 @@ impl Nine {
         let found = family.direct(&filters, &self.lines, what);
         found.map_or(0.0, |found| found.part)
     }
+}
 
-    fn climb(
-        self,
-        random: &mut Random,
-        family: &mut Family,
-        table: &[f32; 17],
-        choice: usize,
-        m: i32,
-        steps: usize,
-    ) -> (Nine, f64) {
-        let part = self.measure(family, table, choice);
+impl Search<'_> {
+    fn climb(&mut self, nine: Nine, m: i32, steps: usize) -> (Nine, f64) {
+        let (table, choice) = (self.table, self.choice);
+        let part = nine.measure(self.family, table, choice);
         climb(
-            (self, part),
+            (nine, part),
             steps,
-            |nine, _| nine.changed(random, table, choice >= 4, m),
-            |nine| Some(nine.measure(family, table, choice)),
+            |nine, _| nine.changed(self.random, table, choice >= 4, m),
+            |nine| Some(nine.measure(self.family, table, choice)),
             |part| *part,
         )
     }
@@ -100,29 +101,31 @@ impl Nine {
 
 pub fn run(build: &Build) -> Family {
     let mut family = Family::new("search");
-    let table = coefficients(build);
     let random = &mut Random(SEED);
+    let table = &coefficients(build);
     for (choice, name) in CHOICES.iter().enumerate() {
+        let mut search = Search {
+            random,
+            family: &mut family,
+            table,
+            choice,
+        };
+        let steps = steps(choice);
         let mut best = None;
         for _ in 0..STARTS {
-            let nine = Nine::new(random, &table, choice, 0);
-            let (nine, part) = nine.climb(random, &mut family, &table, choice, 0, steps(choice));
+            let nine = Nine::new(search.random, table, choice);
+            let (nine, part) = search.climb(nine, 0, steps);
             keep_best(&mut best, part, || nine);
         }
         let Some((part, nine)) = best else {
             continue;
         };
-        println!(
-            "error: search: nine lines at m 0, starting with {name}: {STARTS} starts of {} steps, largest part {part:.4}; indices {:?}, lines {:08X?}",
-            steps(choice),
-            nine.indices,
-            nine.lines.map(f32::to_bits)
-        );
+        let (indices, lines) = (nine.indices, nine.lines.map(f32::to_bits));
+        println!("error: search: nine lines at m 0, starting with {name}: {STARTS} starts of {steps} steps, largest part {part:.4}; indices {indices:?}, lines {lines:08X?}");
         for m in LEAST..=MOST {
             let mut there = nine.clone();
             there.lines = nine.lines.map(|line| times_two(line, m));
-            let steps = if m < NORMAL { LOW_STEPS } else { 0 };
-            there.climb(random, &mut family, &table, choice, m, steps);
+            search.climb(there, m, if m < NORMAL { LOW_STEPS } else { 0 });
         }
     }
     family

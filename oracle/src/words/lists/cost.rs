@@ -1,10 +1,9 @@
 //! The list `cost`: side data with E's bits.
 
-use crate::document::side::Side;
-use crate::draw::random::{Random, SEED};
-use crate::draw::side;
-use crate::original::build::Build;
-use crate::words::lists::list::{List, Record, COST};
+use crate::document::Side;
+use crate::draw::{any_side, Random, SEED};
+use crate::original::Build;
+use crate::words::lists::list::{Given, List, COST};
 use std::path::Path;
 
 const RECORDS: usize = 4000;
@@ -38,7 +37,7 @@ fn sides(random: &mut Random) -> Vec<Side> {
                     for index in 0..17 {
                         let mut side = Side::plain(weighting, order);
                         if others_random {
-                            side.indices = side::any(random, 1).indices;
+                            side.indices = any_side(random, 1).indices;
                         }
                         side.indices[place] = index;
                         sides.push(side);
@@ -50,7 +49,7 @@ fn sides(random: &mut Random) -> Vec<Side> {
     // Two filters: every pair of orders.
     for weighting in 0..2 {
         for pair in 0..81 {
-            let mut side = side::any(random, 2);
+            let mut side = any_side(random, 2);
             side.weighting = weighting;
             side.orders = [pair / 9, pair % 9];
             sides.push(side);
@@ -58,7 +57,7 @@ fn sides(random: &mut Random) -> Vec<Side> {
     }
     // Orders and indices of filters that are not counted.
     for n in 0..400 {
-        sides.push(side::any(random, n % 2));
+        sides.push(any_side(random, n % 2));
     }
     // All indices at one end.
     for weighting in 0..2 {
@@ -76,7 +75,7 @@ fn sides(random: &mut Random) -> Vec<Side> {
     }
     while sides.len() < RECORDS {
         let filters = random.below(3);
-        sides.push(side::any(random, filters));
+        sides.push(any_side(random, filters));
     }
     sides
 }
@@ -96,12 +95,9 @@ pub fn run(builds: &[Build; 2], root: &Path) -> bool {
     for side in sides(&mut Random(SEED)) {
         let bits = std.bits(&side);
         most = most.max(bits);
-        let record = Record {
-            choice: side.weighting,
-            bits,
-            ..Record::of_side(COST, &side)
-        };
-        list.push(&record, libm.bits(&side) != bits);
+        list.differ += usize::from(libm.bits(&side) != bits);
+        let head = [COST, 0, 0, side.weighting, side.filters as u8];
+        list.push(head, Given::Side(&side), &[], bits, &[]);
     }
     list.write(root, "cost", &format!(", at most {most} bits")) && good
 }

@@ -1,13 +1,9 @@
 //! The list `decode`: whole decoder calls with D's lines.
 
-use crate::document::calls::Decode;
-use crate::document::rows::ROWS;
-use crate::draw::decoder::of_kind;
-use crate::draw::random::{Random, SEED};
-use crate::draw::spectra::KINDS;
-use crate::draw::{lengths, side};
-use crate::original::build::Build;
-use crate::words::lists::list::{patterns, List, Record, DECODE};
+use crate::document::{Decode, ROWS};
+use crate::draw::{any_side, decoder::of_kind, length, spectra::KINDS, Random, SEED};
+use crate::original::Build;
+use crate::words::lists::list::{bits_of, patterns, Given, List, DECODE};
 use std::path::Path;
 
 /// Records for each row: one for each kind of spectrum.
@@ -25,7 +21,7 @@ fn calls(random: &mut Random) -> Vec<Decode> {
                 10 | 11 => 1,
                 _ => random.below(3),
             };
-            let mut side = side::any(random, filters);
+            let mut side = any_side(random, filters);
             side.orders = [record % 9, (4 * record + n) % 9];
             // Both ends of the table, used and not.
             match record {
@@ -33,7 +29,7 @@ fn calls(random: &mut Random) -> Vec<Decode> {
                 11 => side.indices = [0; 16],
                 _ => {}
             }
-            let length = lengths::one(random, row, record % 3);
+            let length = length(random, row, record % 3);
             // Another kind for the same orders in each row.
             let kind = (record + 4 * n) % KINDS.len();
             calls.push(of_kind(random, row, side, kind, length));
@@ -48,15 +44,11 @@ pub fn run(builds: &[Build; 2], root: &Path) -> bool {
     for call in calls(&mut Random(SEED)) {
         acting += usize::from(call.acts(0) || call.acts(1));
         let [lines, others] = [0, 1].map(|n| patterns(&builds[n].decoded(&call)));
-        let differs = others != lines;
-        let record = Record {
-            duration: call.row.duration,
-            bandwidth: call.row.bandwidth,
-            before: call.lines.iter().map(|line| line.to_bits()).collect(),
-            after: lines,
-            ..Record::of_side(DECODE, &call.side)
-        };
-        list.push(&record, differs);
+        list.differ += usize::from(others != lines);
+        let Decode { row, side, .. } = &call;
+        let filters = side.filters as u8;
+        let head = [DECODE, row.duration, row.bandwidth, 0, filters];
+        list.push(head, Given::Side(side), &bits_of(&call.lines), 0, &lines);
     }
     list.write(root, "decode", &format!(", {acting} with an acting filter"))
 }

@@ -3,15 +3,14 @@
 //! are those of E's lattice run on, and at coefficients of exactly 1 or -1; such
 //! calls are left out.
 
-use crate::compare::outcomes::difference;
-use crate::document::calls::{Encode, Outcome};
-use crate::document::rows::{Row, ROWS};
-use crate::draw::encoder::{draw, ACTIVE, GAIN_DAMPED, GAIN_ON, KINDS, SILENCE, THRESHOLD};
-use crate::draw::random::{Random, SEED};
-use crate::draw::steer::is_threshold;
-use crate::original::build::Build;
-use crate::original::encoder::How;
-use crate::words::lists::list::{patterns, List, Record, ENCODE};
+use crate::compare::difference;
+use crate::document::{Encode, Outcome, Row, ROWS};
+use crate::draw::{
+    encoder::draw, encoder::ACTIVE, encoder::GAIN_DAMPED, encoder::GAIN_ON, encoder::KINDS,
+    encoder::SILENCE, encoder::THRESHOLD, steer::is_threshold, Random, SEED,
+};
+use crate::original::{Build, How};
+use crate::words::lists::list::{bits_of, patterns, Given, List, ENCODE};
 use std::path::Path;
 
 /// Draws before a search is given up.
@@ -118,20 +117,13 @@ fn listed(call: &Encode, build: &Build) -> Option<Outcome> {
     (how != How::AtOne).then_some(outcome)
 }
 
-fn record(call: &Encode, Outcome { said, lines }: &Outcome) -> Record {
-    Record {
-        call: ENCODE,
-        duration: call.row.duration,
-        bandwidth: call.row.bandwidth,
-        choice: u8::from(call.near_nyquist),
-        bit_number: call.bits,
-        before: call.lines.iter().map(|line| line.to_bits()).collect(),
-        bits: said.bits,
-        side: said.side.record().to_vec(),
-        coefficients: patterns(&said.coefficients),
-        after: patterns(lines),
-        ..Record::default()
-    }
+fn push(list: &mut List, call: &Encode, Outcome { said, lines }: &Outcome) {
+    let (row, near) = (call.row, u8::from(call.near_nyquist));
+    let side: Vec<u32> = said.side.record().map(u32::from).to_vec();
+    let left = [side, patterns(&said.coefficients), patterns(lines)].concat();
+    let head = [ENCODE, row.duration, row.bandwidth, near, 0];
+    let given = Given::BitNumber(call.bits);
+    list.push(head, given, &bits_of(&call.lines), said.bits, &left);
 }
 
 pub fn run(builds: &[Build; 2], root: &Path) -> bool {
@@ -154,7 +146,8 @@ pub fn run(builds: &[Build; 2], root: &Path) -> bool {
         active += usize::from(outcome.said.active());
         let other = listed(call, libm);
         let differs = other.is_none_or(|other| difference(outcome, &other).is_some());
-        list.push(&record(call, outcome), differs);
+        list.differ += usize::from(differs);
+        push(&mut list, call, outcome);
     }
     list.write(root, "encode", &format!(", {active} with a filter on")) && search.failed == 0
 }

@@ -1,32 +1,23 @@
 //! The list `index`: single values with E's index and coefficient.
 
-use crate::draw::random::{Random, SEED};
-use crate::original::build::Build;
-use crate::words::lists::list::{List, Record, INDEX};
+use crate::draw::{steer::turn, Random, SEED};
+use crate::original::Build;
+use crate::words::lists::list::{Given, List, INDEX};
 use std::path::Path;
+
+const ONE: u32 = 0x3F80_0000;
+const SIGN: u32 = 0x8000_0000;
 
 /// The eight thresholds of a build, by halving on its own answers; the word
 /// `tables` shows by a whole sweep that halving is sound.
 fn thresholds(build: &Build) -> [u32; 8] {
-    let mut found = [0; 8];
-    for (k, t) in found.iter_mut().enumerate() {
-        let (mut below, mut above) = (0u32, 1.0f32.to_bits());
-        while above - below > 1 {
-            let middle = below + (above - below) / 2;
-            if build.quantize_one(f32::from_bits(middle)).0 >= 9 + k {
-                above = middle;
-            } else {
-                below = middle;
-            }
-        }
-        *t = above;
-    }
-    found
+    std::array::from_fn(|k| {
+        let index = |pattern: u32| build.quantize_one(f32::from_bits(pattern)).0;
+        turn(0, ONE - 1, |pattern| index(pattern) >= 9 + k).expect("a threshold below 1")
+    })
 }
 
 fn inputs(build: &Build, random: &mut Random) -> Vec<u32> {
-    const ONE: u32 = 0x3F80_0000;
-    const SIGN: u32 = 0x8000_0000;
     let mut bits: Vec<u32> = Vec::new();
     let mut signs = |magnitudes: &mut dyn Iterator<Item = u32>| {
         for magnitude in magnitudes {
@@ -79,14 +70,9 @@ pub fn run(builds: &[Build; 2], root: &Path) -> bool {
                 "lists: {input:08X}: std {index} {coefficient:08X}, libm {other} {its_coefficient:08X}"
             );
         }
-        let record = Record {
-            call: INDEX,
-            before: vec![input],
-            bits: index,
-            after: vec![coefficient],
-            ..Record::default()
-        };
-        list.push(&record, differs);
+        list.differ += usize::from(differs);
+        let head = [INDEX, 0, 0, 0, 0];
+        list.push(head, Given::Nothing, &[input], index, &[coefficient]);
     }
     list.write(root, "index", "")
 }

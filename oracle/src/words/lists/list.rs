@@ -1,93 +1,24 @@
 //! A replayed list in the one form that all lists have: README.md, "The lists".
+//! No list of the original's has a refusal.
 
-use crate::document::side::Side;
+use crate::document::Side;
 use std::path::Path;
-
-/// What a call is given and what it must answer. What a call does not take or
-/// answer is 0 or empty.
-#[derive(Default)]
-pub struct Record {
-    /// 0 index, 1 cost, 2 decode, 3 encode.
-    pub call: u8,
-    pub duration: u8,
-    pub bandwidth: u8,
-    /// The cost's weighting, or the encoder's near-Nyquist flag.
-    pub choice: u8,
-    pub filters: u8,
-    pub orders: Vec<u8>,
-    pub indices: Vec<u8>,
-    /// The encoder's.
-    pub bit_number: u64,
-    /// Lines before and after, as patterns.
-    pub before: Vec<u32>,
-    pub after: Vec<u32>,
-    /// The answer's bits, or the index. No list of the original's has a refusal.
-    pub bits: usize,
-    /// The encoder's side data and coefficients.
-    pub side: Vec<u8>,
-    pub coefficients: Vec<u32>,
-}
 
 pub const INDEX: u8 = 0;
 pub const COST: u8 = 1;
 pub const DECODE: u8 = 2;
 pub const ENCODE: u8 = 3;
 
-impl Record {
-    /// Filter count, orders and indices of side data.
-    pub fn of_side(call: u8, side: &Side) -> Self {
-        let [_, filters, sets @ ..] = side.record();
-        Record {
-            call,
-            filters,
-            orders: sets[..2].to_vec(),
-            indices: sets[2..].to_vec(),
-            ..Record::default()
-        }
-    }
+/// The call, duration, bandwidth, choice and filter count. The choice is the
+/// cost's weighting, or the encoder's near-Nyquist flag. What a call does not
+/// take is 0.
+pub type Head = [u8; 5];
 
-    /// Assumes at most 3 orders, 17 indices and 401 lines, and as many lines
-    /// after as before.
-    fn bytes(&self) -> Vec<u8> {
-        let mut bytes = vec![
-            self.call,
-            self.duration,
-            self.bandwidth,
-            self.choice,
-            self.filters,
-            self.orders.len() as u8,
-            self.indices.len() as u8,
-        ];
-        bytes.extend(words(&[self.before.len() as u32]));
-        bytes.extend(words(&self.before));
-        match self.call {
-            INDEX => {}
-            ENCODE => bytes.extend(self.bit_number.to_le_bytes()),
-            _ => {
-                let (mut orders, mut indices) = ([0; 3], [0; 17]);
-                orders[..self.orders.len()].copy_from_slice(&self.orders);
-                indices[..self.indices.len()].copy_from_slice(&self.indices);
-                bytes.extend(orders);
-                bytes.extend(indices);
-            }
-        }
-        bytes.extend(words(&[0, 0, 0, self.bits as u32]));
-        let side: Vec<u32> = self.side.iter().map(|byte| u32::from(*byte)).collect();
-        bytes.extend(words(&side));
-        bytes.extend(words(&self.coefficients));
-        bytes.extend(words(&self.after));
-        bytes
-    }
-}
-
-fn words(numbers: &[u32]) -> Vec<u8> {
-    numbers.iter().flat_map(|n| n.to_le_bytes()).collect()
-}
-
-/// The bit patterns of lines, with one pattern for every NaN.
-pub fn patterns(lines: &[f32]) -> Vec<u32> {
-    let pattern = |x: &f32| if x.is_nan() { 0x7FC0_0000 } else { x.to_bits() };
-    lines.iter().map(pattern).collect()
+/// What a call takes besides its head and its lines.
+pub enum Given<'a> {
+    Nothing,
+    Side(&'a Side),
+    BitNumber(u64),
 }
 
 /// A list as it grows.
@@ -95,15 +26,36 @@ pub fn patterns(lines: &[f32]) -> Vec<u32> {
 pub struct List {
     records: usize,
     bytes: Vec<u8>,
-    differ: usize,
+    /// Records that the libm build answers otherwise.
+    pub differ: usize,
 }
 
 impl List {
-    /// One record more, and whether the libm build answers it otherwise.
-    pub fn push(&mut self, record: &Record, libm_differs: bool) {
+    fn words(&mut self, numbers: &[u32]) {
+        self.bytes
+            .extend(numbers.iter().flat_map(|n| n.to_le_bytes()));
+    }
+
+    /// One record more. The bits are the answer's, or the index; what is left is
+    /// all that the call wrote, the lines last.
+    pub fn push(&mut self, head: Head, given: Given, lines: &[u32], bits: usize, left: &[u32]) {
         self.records += 1;
-        self.bytes.extend(record.bytes());
-        self.differ += usize::from(libm_differs);
+        self.bytes.extend(head);
+        let given = match given {
+            Given::Nothing => (&[0, 0], Vec::new()),
+            Given::BitNumber(number) => (&[0, 0], number.to_le_bytes().to_vec()),
+            Given::Side(side) => {
+                let record = side.record();
+                let (orders, indices) = record[2..].split_at(2);
+                (&[2, 16], [orders, &[0], indices, &[0]].concat())
+            }
+        };
+        self.bytes.extend(given.0);
+        self.words(&[lines.len() as u32]);
+        self.words(lines);
+        self.bytes.extend(given.1);
+        self.words(&[0, 0, 0, bits as u32]);
+        self.words(left);
     }
 
     /// Prints the list's numbers, with what else is to be said of it, and writes
@@ -118,4 +70,14 @@ impl List {
         }
         written.is_ok()
     }
+}
+
+pub fn bits_of(lines: &[f32]) -> Vec<u32> {
+    lines.iter().map(|line| line.to_bits()).collect()
+}
+
+/// The bit patterns of lines, with one pattern for every NaN.
+pub fn patterns(lines: &[f32]) -> Vec<u32> {
+    let pattern = |x: &f32| if x.is_nan() { 0x7FC0_0000 } else { x.to_bits() };
+    lines.iter().map(pattern).collect()
 }

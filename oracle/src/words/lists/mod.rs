@@ -8,8 +8,8 @@ mod encode;
 mod index;
 mod list;
 
-use crate::draw::random::say_seed;
-use crate::original::build::both;
+use crate::draw::say_seed;
+use crate::original::both;
 use std::path::Path;
 
 pub fn run(root: &Path) -> bool {

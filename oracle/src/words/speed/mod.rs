@@ -18,15 +18,11 @@ mod callgrind;
 #[path = "../../../../../../rust/src/float.rs"]
 mod float;
 
-use crate::document::refusals::ACCEPTED;
-use crate::document::rows::{Row, ROWS};
-use crate::document::side::Side;
-use crate::draw::bands::bands;
-use crate::draw::random::{Random, SEED};
+use crate::document::{Row, Side, ACCEPTED, ROWS};
+use crate::draw::{bands::bands, Random, SEED};
 use crate::liblc3::{analyze, synthesize, Data};
-use crate::original::build::{both, Build};
-use crate::port::decoder::decode_lines;
-use crate::port::encoder::encode_lines;
+use crate::original::{both, Build};
+use crate::port::{decode_lines, encode_lines};
 use gillsextant::{Bandwidth, Duration};
 use std::ffi::CString;
 use std::hint::black_box;

@@ -1,8 +1,7 @@
-//! E's answer to a call, and what document 01 says instead where it differs.
+//! D's and E's answers to a call, and what document 01 says instead where it
+//! differs from E.
 
-use crate::document::calls::{Encode, Encoded, Outcome};
-use crate::document::rules;
-use crate::document::side::Side;
+use crate::document::{rules, Decode, Encode, Encoded, Outcome, Side};
 use crate::original::build::Build;
 use crate::original::caught::caught;
 
@@ -18,6 +17,22 @@ pub enum How {
 }
 
 impl Build {
+    /// D's lines.
+    pub fn decoded(&self, call: &Decode) -> Vec<f32> {
+        let (row, side) = (call.row, &call.side);
+        let (orders, indices) = (&side.orders, &side.indices);
+        let mut lines = call.lines.clone();
+        (self.decode)(
+            row.duration,
+            row.bandwidth,
+            side.filters,
+            orders,
+            indices,
+            &mut lines,
+        );
+        lines
+    }
+
     /// E's answer, or nothing if it panics.
     pub fn encoded(&self, call: &Encode) -> Option<Outcome> {
         let (row, bits, near) = (call.row, call.bits, call.near_nyquist);
