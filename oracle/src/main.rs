@@ -6,7 +6,7 @@
 //! of the shared rooms unused. A word's own folder has nothing to leave.
 #![cfg_attr(
     not(all(feature = "decode", feature = "error", feature = "lc3")),
-    allow(dead_code)
+    allow(dead_code, unused_imports)
 )]
 
 mod compare;
@@ -17,7 +17,7 @@ mod liblc3;
 mod original;
 #[cfg(any(feature = "decode", feature = "encode", feature = "lc3"))]
 mod port;
-#[warn(dead_code)]
+#[warn(dead_code, unused_imports)]
 mod words;
 
 use std::path::Path;

@@ -1,5 +1,5 @@
 //! Stand-in for `heapless::Vec`: new, push and iter_mut, as D uses them.
-//! Assumes nothing; a push beyond N gives the item back, as the original does.
+//! A push beyond N gives the item back, as the original's does.
 #![no_std]
 
 pub struct Vec<T, const N: usize> {
@@ -7,13 +7,8 @@ pub struct Vec<T, const N: usize> {
     len: usize,
 }
 
-impl<T, const N: usize> Default for Vec<T, N> {
-    fn default() -> Self {
-        Self::new()
-    }
-}
-
 impl<T, const N: usize> Vec<T, N> {
+    #[allow(clippy::new_without_default)]
     pub fn new() -> Self {
         Self {
             items: [const { None }; N],

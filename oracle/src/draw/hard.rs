@@ -20,14 +20,6 @@ pub const KINDS: [&str; 8] = [
 /// The kind that has a subband of coarse energy, after all the others.
 pub const COARSE: usize = 7;
 
-fn signed(size: f32, negative: bool) -> f32 {
-    if negative {
-        -size
-    } else {
-        size
-    }
-}
-
 /// Signs of eight reflection coefficients: all of one sign, alternating from
 /// either, or any. The sizes are near 1, where the indices are 16 and 0.
 fn reflection(random: &mut Random) -> [f32; 8] {
@@ -42,7 +34,11 @@ fn reflection(random: &mut Random) -> [f32; 8] {
             _ => random.once_in(2),
         };
         let size = 1.0 - near * (0.5 + 0.5 * random.unit().abs());
-        signed(size, negative)
+        if negative {
+            -size
+        } else {
+            size
+        }
     })
 }
 
@@ -69,7 +65,7 @@ fn loud(random: &mut Random, lines: &mut [f32]) {
             _ => random.once_in(2),
         };
         let size = 1.0 - rough * random.unit().abs();
-        *line = signed(size, negative);
+        *line = if negative { -size } else { size };
     }
 }
 

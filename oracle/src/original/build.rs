@@ -4,14 +4,6 @@
 use crate::document::{Encoded, Side};
 use std::hint::black_box;
 
-/// D's public function: duration code, bandwidth, filters, orders, indices,
-/// lines. Assumes a bandwidth from 0 to 4; any duration code but 0 is 7.5 ms.
-pub type Decode = fn(u8, u8, usize, &[usize], &[usize], &mut [f32]);
-
-/// E's public function: duration code, bandwidth, bit number, near-Nyquist
-/// flag, lines. E is configured for as many lines as there are.
-pub type Encode = fn(u8, u8, u64, bool, &mut [f32]) -> Encoded;
-
 pub struct Build {
     pub name: &'static str,
     /// E's `apply_quantization`: filters, coefficients, indices, orders.
@@ -24,8 +16,12 @@ pub struct Build {
     pub decoder_coefficient: fn(usize) -> f32,
     pub encoder_step: f32,
     pub decoder_step: f32,
-    pub decode: Decode,
-    pub encode: Encode,
+    /// D's public function: duration code, bandwidth, filters, orders, indices,
+    /// lines. Assumes a bandwidth from 0 to 4; any duration code but 0 is 7.5 ms.
+    pub decode: fn(u8, u8, usize, &[usize], &[usize], &mut [f32]),
+    /// E's public function: duration code, bandwidth, bit number, near-Nyquist
+    /// flag, lines. E is configured for as many lines as there are.
+    pub encode: fn(u8, u8, u64, bool, &mut [f32]) -> Encoded,
     /// The lags of one filter: duration code, bandwidth, filter, lines.
     pub lags: fn(u8, u8, usize, &[f32]) -> [f32; 9],
     /// The coefficients before they are quantized: duration code, bandwidth,
@@ -41,11 +37,7 @@ macro_rules! build {
         use $krate::decoder::temporal_noise_shaping as decoder;
         use $krate::encoder::temporal_noise_shaping as encoder;
         fn duration(code: u8) -> FrameDuration {
-            if code == 0 {
-                TenMs
-            } else {
-                SevenPointFiveMs
-            }
+            [TenMs, SevenPointFiveMs][usize::from(code != 0)]
         }
         fn config(code: u8, ne: usize) -> Lc3Config {
             let n_ms = duration(code);

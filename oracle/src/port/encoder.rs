@@ -77,10 +77,10 @@ impl Loan {
         self.side.guards_stand() && floats.iter().all(|lent| lent.guards_stand())
     }
 
-    /// Whether nothing was written beside the lines.
+    /// Whether nothing was written beside the lines, nor around the side data.
     pub fn untouched(&self) -> bool {
-        let coefficients = self.coefficients.list();
-        self.side().iter().all(u8::is_guard) && coefficients.iter().all(f32::is_guard)
+        let side = self.side.guards_stand() && self.side().iter().all(u8::is_guard);
+        side && self.coefficients.list().iter().all(f32::is_guard)
     }
 }
 

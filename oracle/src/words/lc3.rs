@@ -3,10 +3,8 @@
 //! differs is counted and nothing is demanded.
 
 use crate::document::{Encode, Row, ROWS};
-use crate::draw::{
-    any_side, encoder::draw, encoder::ACTIVE, encoder::GAIN_DAMPED, encoder::GAIN_ON,
-    encoder::THRESHOLD, Random, SEED,
-};
+use crate::draw::encoder::{draw, ACTIVE, GAIN_DAMPED, GAIN_ON, THRESHOLD};
+use crate::draw::{any_side, Random, SEED};
 use crate::liblc3::{analyze, nbits, synthesize, Data};
 use crate::original::{both, Build};
 use crate::port::{decode, Lent, Loan};

@@ -60,14 +60,10 @@ impl Tally {
         let first = first_difference(&wanted, given);
         self.differ.take(first.is_some(), || {
             let n = first.unwrap_or(0);
-            format!(
-                "decode: {}: {} with {length} lines, {}, {side:?}: answer {answer:?}; line {n}: D {:08X}, port {:08X}",
-                build.name,
-                row.name(),
-                KINDS[call.kind],
-                wanted[n].to_bits(),
-                given[n].to_bits()
-            )
+            let (build, row, kind) = (build.name, row.name(), KINDS[call.kind]);
+            let (filters, orders, indices) = (side.filters, side.orders, side.indices);
+            let (wanted, given) = (wanted[n].to_bits(), given[n].to_bits());
+            format!("decode: {build}: {row} with {length} lines, {kind}, filters {filters} orders {orders:?} indices {indices:?}: answer {answer:?}; line {n}: D {wanted:08X}, port {given:08X}")
         });
     }
 

@@ -12,7 +12,7 @@ use crate::port::{decode_lines, Lent};
 const DRAWS: usize = 100;
 const ANY: usize = 300_000;
 
-#[derive(Clone, Debug)]
+#[derive(Clone)]
 struct Input {
     duration: u8,
     bandwidth: u8,
@@ -127,10 +127,10 @@ impl Calls<'_> {
             first_change(&before, lent.list())
         };
         let stand = lent.guards_stand();
-        self.tally
-            .take((wanted, given), other.is_some(), stand, || {
-                format!("decode: {input:?}")
-            });
+        let answers = (wanted, given);
+        self.tally.take(answers, other.is_some(), stand, || {
+            format!("decode: duration {duration} bandwidth {bandwidth} filters {filters} orders {orders:?} indices {indices:?}, {length} lines")
+        });
     }
 }
 

@@ -2,7 +2,8 @@
 //! lines, which the encoder need not ever choose together. The families of frames
 //! show that this lattice is the port's.
 
-use crate::document::{exact::LEAST, exact::MOST, Filters};
+use crate::document::exact::{LEAST, MOST};
+use crate::document::Filters;
 use crate::draw::{two, Random, SEED};
 use crate::original::Build;
 use crate::words::error::chosen::{coefficients, growing, indices, CHOICES};

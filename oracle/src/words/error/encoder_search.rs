@@ -4,10 +4,11 @@
 //! sort are not measured and not counted; all others are. What is found at m = 0
 //! is then carried to every m by a power of two.
 
-use crate::document::{exact::LEAST, exact::MOST, Encode, Row, ROWS};
-use crate::draw::{
-    encoder::draw, encoder::ONE, hard, hard::scaled, hard::COARSE, two, Random, SEED,
-};
+use crate::document::exact::{LEAST, MOST};
+use crate::document::{Encode, Row, ROWS};
+use crate::draw::encoder::{draw, ONE};
+use crate::draw::hard::{self, scaled, COARSE};
+use crate::draw::{two, Random, SEED};
 use crate::original::Build;
 use crate::port::Loan;
 use crate::words::error::climb::{climb, keep_best, moved};
@@ -21,54 +22,43 @@ const STEERED: usize = 20;
 const GROWING: usize = 10_000;
 const CLIMBING: usize = 12_000;
 
-/// What a climb starts from: hard frames whose energies are plain, or frames with
-/// a subband of lines near 2^-75, hard ones and such as are steered to a
-/// coefficient of 1. The energy of such a subband is so coarse that a lag may
-/// outgrow it.
-struct Start {
-    name: &'static str,
-    coarse: bool,
-}
+/// What a climb starts from: a name, and whether the energies are coarse.
+type Start = (&'static str, bool);
 
+/// Hard frames whose energies are plain; or frames with a subband of lines near
+/// 2^-75, hard ones and such as are steered to a coefficient of 1. The energy of
+/// such a subband is so coarse that a lag may outgrow it.
 const STARTS: [Start; 2] = [
-    Start {
-        name: "plain energies",
-        coarse: false,
-    },
-    Start {
-        name: "a subband of coarse energy",
-        coarse: true,
-    },
+    ("plain energies", false),
+    ("a subband of coarse energy", true),
 ];
 
-impl Start {
-    /// The best start for a row at m = 0, with its part.
-    fn best(
-        &self,
-        random: &mut Random,
-        build: &Build,
-        family: &mut Family,
-        row: &'static Row,
-    ) -> Option<(f64, Encode)> {
-        let mut best = None;
-        let mut take = |call: &Encode| {
-            if let Some(found) = family.encoded(call, self.name) {
-                keep_best(&mut best, found.part, || call.clone());
-            }
-        };
-        for n in 0..TRIED {
-            let kind = if self.coarse { COARSE } else { n % COARSE };
-            take(&hard::frame(random, row, kind, 0));
+/// The best start for a row at m = 0, with its part.
+fn best(
+    random: &mut Random,
+    build: &Build,
+    family: &mut Family,
+    row: &'static Row,
+    (name, coarse): Start,
+) -> Option<(f64, Encode)> {
+    let mut best = None;
+    let mut take = |call: &Encode| {
+        if let Some(found) = family.encoded(call, name) {
+            keep_best(&mut best, found.part, || call.clone());
         }
-        if self.coarse {
-            for _ in 0..STEERED {
-                draw(random, build, row, ONE, row.last_stop(), |call| {
-                    take(&carried(call, 0));
-                });
-            }
-        }
-        best
+    };
+    for n in 0..TRIED {
+        let kind = if coarse { COARSE } else { n % COARSE };
+        take(&hard::frame(random, row, kind, 0));
     }
+    if coarse {
+        for _ in 0..STEERED {
+            draw(random, build, row, ONE, row.last_stop(), |call| {
+                take(&carried(call, 0));
+            });
+        }
+    }
+    best
 }
 
 /// A frame carried to another m by a power of two. The lines of a coarse subband,
@@ -162,11 +152,10 @@ fn search(
 pub fn run(build: &Build) -> Family {
     let mut family = Family::new("encoder search");
     let random = &mut Random(SEED);
-    for start in &STARTS {
+    for start in STARTS {
         for row in &ROWS {
-            let found = start
-                .best(random, build, &mut family, row)
-                .and_then(|best| search(random, &mut family, start.name, best));
+            let found = best(random, build, &mut family, row, start)
+                .and_then(|best| search(random, &mut family, start.0, best));
             if found.is_none() {
                 println!("error: encoder search: {}: no filter on", row.name());
             }

@@ -2,7 +2,8 @@
 //! lattice.
 
 use crate::compare::{first_change, first_difference};
-use crate::document::{exact, exact::LEAST, exact::MOST, Encode, Filters};
+use crate::document::exact::{self, LEAST, MOST};
+use crate::document::{Encode, Filters};
 use crate::port::Loan;
 use crate::words::error::climb::keep_best;
 

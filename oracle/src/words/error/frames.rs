@@ -1,9 +1,10 @@
 //! The families `drawn` and `hard`: frames through the port's encoder at every m.
 
-use crate::document::{exact::LEAST, exact::MOST, ROWS};
-use crate::draw::{
-    encoder::draw_any, encoder::name, hard::frame, hard::scaled, hard::KINDS, Random, SEED,
-};
+use crate::document::exact::{LEAST, MOST};
+use crate::document::ROWS;
+use crate::draw::encoder::{draw_any, name};
+use crate::draw::hard::{frame, scaled, KINDS};
+use crate::draw::{Random, SEED};
 use crate::original::Build;
 use crate::words::error::family::Family;
 

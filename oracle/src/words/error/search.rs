@@ -6,7 +6,8 @@
 //! The number of steps is fixed, and every step is measured and counted. What is
 //! found at m = 0 is then carried to every m by a power of two.
 
-use crate::document::{exact::LEAST, exact::MOST, Filters};
+use crate::document::exact::{LEAST, MOST};
+use crate::document::Filters;
 use crate::draw::{hard::times_two, Random, SEED};
 use crate::original::Build;
 use crate::words::error::chosen::{coefficients, growing, indices, CHOICES};

@@ -5,10 +5,8 @@
 
 use crate::compare::difference;
 use crate::document::{Encode, Outcome, Row, ROWS};
-use crate::draw::{
-    encoder::draw, encoder::ACTIVE, encoder::GAIN_DAMPED, encoder::GAIN_ON, encoder::KINDS,
-    encoder::SILENCE, encoder::THRESHOLD, steer::is_threshold, Random, SEED,
-};
+use crate::draw::encoder::{draw, ACTIVE, GAIN_DAMPED, GAIN_ON, KINDS, SILENCE, THRESHOLD};
+use crate::draw::{steer::is_threshold, Random, SEED};
 use crate::original::{Build, How};
 use crate::words::lists::list::{bits_of, patterns, Given, List, ENCODE};
 use std::path::Path;
