@@ -5,7 +5,7 @@
 
 FOLDER holds `times`, the output of `oracle/run speed`, and `counts/part.N`, one
 file of callgrind's for each label of the harness's word `counts`. Assumes the
-fields that oracle/src/speed.rs states. Python 3's standard library alone.
+fields that oracle/src/words/speed/mod.rs states. Python 3's standard library alone.
 """
 
 import pathlib

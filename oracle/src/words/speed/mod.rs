@@ -37,6 +37,7 @@ const ROUNDS: usize = 250;
 /// Far above the weighting limits; a whole number of bytes for liblc3.
 const BITS: u64 = 1600;
 
+// By code, which the crate does not take.
 const DURATIONS: [Duration; 2] = [Duration::TenMs, Duration::SevenPointFiveMs];
 const BANDWIDTHS: [Bandwidth; 5] = [
     Bandwidth::NarrowBand,
