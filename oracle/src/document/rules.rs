@@ -70,11 +70,7 @@ pub fn gain(lags: &[f32; 9]) -> f32 {
         a[k] = rc;
         error *= 1.0 - rc * rc;
     }
-    if error == 0.0 {
-        lags[0]
-    } else {
-        lags[0] / error
-    }
+    lags[0] / if error == 0.0 { 1.0 } else { error }
 }
 
 /// One line through the stages of the encoder's lattice, in any numbers:

@@ -34,11 +34,7 @@ fn reflection(random: &mut Random) -> [f32; 8] {
             _ => random.once_in(2),
         };
         let size = 1.0 - near * (0.5 + 0.5 * random.unit().abs());
-        if negative {
-            -size
-        } else {
-            size
-        }
+        [size, -size][usize::from(negative)]
     })
 }
 
@@ -65,7 +61,7 @@ fn loud(random: &mut Random, lines: &mut [f32]) {
             _ => random.once_in(2),
         };
         let size = 1.0 - rough * random.unit().abs();
-        *line = if negative { -size } else { size };
+        *line = [size, -size][usize::from(negative)];
     }
 }
 

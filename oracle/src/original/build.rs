@@ -4,6 +4,10 @@
 use crate::document::{Encoded, Side};
 use std::hint::black_box;
 
+/// D's public function: duration code, bandwidth, filters, orders, indices,
+/// lines. Assumes a bandwidth from 0 to 4; any duration code but 0 is 7.5 ms.
+type Decode = fn(u8, u8, usize, &[usize], &[usize], &mut [f32]);
+
 pub struct Build {
     pub name: &'static str,
     /// E's `apply_quantization`: filters, coefficients, indices, orders.
@@ -16,9 +20,7 @@ pub struct Build {
     pub decoder_coefficient: fn(usize) -> f32,
     pub encoder_step: f32,
     pub decoder_step: f32,
-    /// D's public function: duration code, bandwidth, filters, orders, indices,
-    /// lines. Assumes a bandwidth from 0 to 4; any duration code but 0 is 7.5 ms.
-    pub decode: fn(u8, u8, usize, &[usize], &[usize], &mut [f32]),
+    pub decode: Decode,
     /// E's public function: duration code, bandwidth, bit number, near-Nyquist
     /// flag, lines. E is configured for as many lines as there are.
     pub encode: fn(u8, u8, u64, bool, &mut [f32]) -> Encoded,

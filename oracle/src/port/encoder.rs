@@ -1,6 +1,6 @@
 //! The port's encoder.
 
-use crate::document::{Answer, Encode, Encoded, Side};
+use crate::document::{Answer, Encode, Encoded, Outcome, Side};
 use crate::port::lent::{Guarded, Lent};
 
 extern "C" {
@@ -63,13 +63,15 @@ impl Loan {
         self.side.list()
     }
 
-    /// What an accepted call wrote, with the bits of its answer.
-    pub fn encoded(&self, bits: u16) -> Encoded {
-        Encoded {
+    /// What an accepted call left, with the bits of its answer.
+    pub fn outcome(&self, bits: u16) -> Outcome {
+        let said = Encoded {
             bits: bits as usize,
             side: Side::of_record(self.side().try_into().expect("20 bytes")),
             coefficients: self.coefficients.list().try_into().expect("16 floats"),
-        }
+        };
+        let lines = self.lines().to_vec();
+        Outcome { said, lines }
     }
 
     pub fn guards_stand(&self) -> bool {

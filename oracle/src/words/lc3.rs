@@ -20,11 +20,7 @@ fn apart(a: &[f32], b: &[f32]) -> f64 {
     let largest = most(&mut a.iter().map(|x| f64::from(x.abs())));
     let pairs = a.iter().zip(b);
     let difference = most(&mut pairs.map(|(x, y)| (f64::from(*x) - f64::from(*y)).abs()));
-    if largest == 0.0 {
-        difference
-    } else {
-        difference / largest
-    }
+    difference / if largest == 0.0 { 1.0 } else { largest }
 }
 
 #[derive(Clone, Copy, Default)]

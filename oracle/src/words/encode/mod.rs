@@ -61,22 +61,14 @@ impl Tally {
         self.guards += u64::from(!loan.guards_stand());
         let bits = answer.bits;
         let what = if answer == (Answer { bits, ..ACCEPTED }) {
-            let said = loan.encoded(bits);
-            let lines = loan.lines().to_vec();
-            difference(&wanted, &Outcome { said, lines })
+            difference(&wanted, &loan.outcome(bits))
         } else {
             Some(format!("{answer:?}"))
         };
         self.differ.take(what.is_some(), || {
-            format!(
-                "encode: {} with {} lines, {}, bit number {}, near Nyquist {}: wanted, given: {}",
-                call.row.name(),
-                call.lines.len(),
-                encoder::name(call.kind),
-                call.bits,
-                call.near_nyquist,
-                what.unwrap_or_default()
-            )
+            let (row, kind, length) = (call.row.name(), encoder::name(call.kind), call.lines.len());
+            let (bits, near, what) = (call.bits, call.near_nyquist, what.unwrap_or_default());
+            format!("encode: {row} with {length} lines, {kind}, bit number {bits}, near Nyquist {near}: wanted, given: {what}")
         });
         self.count(build, call, &wanted, how);
     }

@@ -3,7 +3,7 @@
 //! with E.
 
 use crate::compare::{difference, first_change, refusals::Tally};
-use crate::document::{refusals::spectrum, Encode, Outcome, Row, ACCEPTED, ROWS};
+use crate::document::{refusals::spectrum, Encode, Row, ACCEPTED, ROWS};
 use crate::draw::{over, Random, SEED};
 use crate::original::Build;
 use crate::port::Loan;
@@ -35,10 +35,7 @@ fn take(tally: &mut Tally, build: &Build, random: &mut Random, at: (u8, u8, usiz
                 kind: 0,
                 lines: before,
             };
-            let found = Outcome {
-                said: loan.encoded(given.bits),
-                lines: loan.lines().to_vec(),
-            };
+            let found = loan.outcome(given.bits);
             let asked = build.wanted(&call, build.encoded(&call));
             asked.is_none_or(|(outcome, _)| {
                 wanted.bits = outcome.said.bits as u16;

@@ -41,9 +41,9 @@ pub fn run(build: &Build) -> Family {
     let random = &mut Random(SEED);
     for m in LEAST..=MOST {
         for _ in 0..ROUNDS {
-            for choice in 0..CHOICES.len() {
-                for signs in 0..SIGNS.len() {
-                    for size in 0..SIZES.len() {
+            for (choice, chosen) in CHOICES.iter().enumerate() {
+                for (signs, signed) in SIGNS.iter().enumerate() {
+                    for (size, sized) in SIZES.iter().enumerate() {
                         let all = [indices(random, choice), indices(random, choice)];
                         let q = all.map(|set| set.map(|index| table[index]));
                         let coefficients = std::array::from_fn(|n| q[n / 8][n % 8]);
@@ -69,9 +69,7 @@ pub fn run(build: &Build) -> Family {
                             orders: [8, second],
                             coefficients,
                         };
-                        family.direct(&filters, &lines, || {
-                            format!("{}, {}, {}", CHOICES[choice], SIGNS[signs], SIZES[size])
-                        });
+                        family.direct(&filters, &lines, || format!("{chosen}, {signed}, {sized}"));
                     }
                 }
             }

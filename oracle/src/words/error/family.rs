@@ -3,7 +3,7 @@
 
 use crate::compare::{first_change, first_difference};
 use crate::document::exact::{self, LEAST, MOST};
-use crate::document::{Encode, Filters};
+use crate::document::{Encode, Filters, Outcome};
 use crate::port::Loan;
 use crate::words::error::climb::keep_best;
 
@@ -85,8 +85,8 @@ impl Family {
             self.refused += 1;
             return None;
         }
-        let filters = self.loan.encoded(answer.bits).filters(row);
-        let after = self.loan.lines().to_vec();
+        let Outcome { said, lines: after } = self.loan.outcome(answer.bits);
+        let filters = said.filters(row);
         self.compared += 1;
         let copy = filters.filtered(before);
         let differs = first_difference(&copy[first..end], &after[first..end]);
