@@ -14,11 +14,6 @@ pub fn line(who: &str, input: &str, act: impl FnOnce() -> String) {
 /// Side data for D: filter count, orders, indices.
 pub type Given<'a> = (usize, &'a [usize], &'a [usize]);
 
-/// Sixteen indices, alike but for one place.
-pub fn indices(all: usize, place: usize, other: usize) -> [usize; 16] {
-    std::array::from_fn(|n| if n == place { other } else { all })
-}
-
 /// D on lines of ones, told as what it left of them.
 pub fn decoder(
     build: &Build,

@@ -39,7 +39,11 @@ macro_rules! build {
         use $krate::decoder::temporal_noise_shaping as decoder;
         use $krate::encoder::temporal_noise_shaping as encoder;
         fn duration(code: u8) -> FrameDuration {
-            [TenMs, SevenPointFiveMs][usize::from(code != 0)]
+            if code == 0 {
+                TenMs
+            } else {
+                SevenPointFiveMs
+            }
         }
         fn config(code: u8, ne: usize) -> Lc3Config {
             let n_ms = duration(code);

@@ -1,6 +1,6 @@
 //! What E and D (std build) do with input that document 01 refuses or changes.
 
-use crate::compare::strange::{decoder, indices, line, Given};
+use crate::compare::strange::{decoder, line, Given};
 use crate::document::ROWS;
 use crate::original::Build;
 use original_std::common::config::{FrameDuration, Lc3Config};
@@ -8,7 +8,12 @@ use original_std::encoder::temporal_noise_shaping::TemporalNoiseShaping;
 use std::hint::black_box;
 
 fn encoder_cost(e: &Build) {
-    let (used, unused) = (indices(8, 0, 17), indices(8, 1, 255));
+    let with = |place: usize, index: usize| {
+        let mut indices = [8usize; 16];
+        indices[place] = index;
+        indices
+    };
+    let (used, unused) = (with(0, 17), with(1, 255));
     let eights = [8usize; 24];
     let i16 = &eights[..16];
     let say = |input: &str, weighting: u8, (filters, orders, indices): Given| {
@@ -73,7 +78,8 @@ fn encoder_run() {
 
 fn decoder_lines(build: &Build) {
     let nines = [9usize; 24];
-    let far = indices(9, 0, 17);
+    let mut far = [9usize; 16];
+    far[0] = 17;
     let i16 = &nines[..16];
     let say = |input: &str, given: Given, length: usize| {
         decoder(build, input, &ROWS[0], given, length, |lines| {

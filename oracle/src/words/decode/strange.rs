@@ -2,7 +2,7 @@
 //! the word `cost` shows. D takes the duration and the bandwidth as enums, so
 //! refusals 1 and 2 have no like there.
 
-use crate::compare::strange::{decoder, indices, Given};
+use crate::compare::strange::{decoder, Given};
 use crate::document::{Row, ROWS};
 use crate::original::Build;
 
@@ -18,6 +18,11 @@ fn changed(lines: &[f32]) -> String {
 pub fn run(build: &Build) {
     let nines = [9usize; 32];
     let i16 = &nines[..16];
+    let with = |place: usize, index: usize| {
+        let mut indices = [9usize; 16];
+        indices[place] = index;
+        indices
+    };
     let say = |input: &str, row: &Row, given: Given, length: usize| {
         decoder(build, input, row, given, length, changed);
     };
@@ -47,8 +52,8 @@ pub fn run(build: &Build) {
     say("order 255", one, (1, &[255, 0], i16), 80);
     two("order 9 not counted, count 1", (1, &[1, 9], i16));
     two("order 9 not counted, count 0", (0, &[9, 9], i16));
-    two("index 17 not used", (2, &[1, 1], &indices(9, 7, 17)));
+    two("index 17 not used", (2, &[1, 1], &with(7, 17)));
     let name = "index 17 of a filter without a band";
-    say(name, one, (2, &[1, 1], &indices(9, 8, 17)), 80);
-    two("index 255 used", (2, &[1, 1], &indices(9, 8, 255)));
+    say(name, one, (2, &[1, 1], &with(8, 17)), 80);
+    two("index 255 used", (2, &[1, 1], &with(8, 255)));
 }
