@@ -29,6 +29,7 @@
 
 pub mod decoder;
 pub mod encoder;
+mod exports;
 mod float;
 mod refusal;
 mod sys;

@@ -1,19 +1,10 @@
-//! The library's three functions: their declarations, and the only calls of them. The contracts of
-//! these functions are proved; that the shapes here are theirs is for a reader to see in
-//! `crates/tns/src/lib.rt`. All three are called in the default float environment (`float`), so that
-//! nobody has to know which of them compute with floats. The two short calls are inlined: handing nine
-//! arguments on would take longer than a decoder's call without a filter.
+//! The only calls of the library's three functions. All three are called in the default float
+//! environment (`float`), so that nobody has to know which of them compute with floats. The two short
+//! calls are inlined: handing nine arguments on would take longer than a decoder's call without a
+//! filter.
 
+use crate::exports::{tns_cost, tns_decode, tns_encode, Answer};
 use crate::{float, Encoded, Refusal, SideData};
-
-#[derive(Clone, Copy)]
-#[repr(C)]
-struct Answer {
-    refusal: u16,
-    place: u16,
-    found: u16,
-    bits: u16,
-}
 
 impl Answer {
     #[inline]
@@ -31,38 +22,6 @@ impl Answer {
     fn why(self) -> Refusal {
         Refusal::of(self.refusal, self.place, self.found)
     }
-}
-
-extern "C" {
-    fn tns_encode(
-        duration: u8,
-        bandwidth: u8,
-        bits: u64,
-        near_nyquist: bool,
-        lines: *mut f32,
-        lines_len: usize,
-        side: *mut [u8; 20],
-        coefficients: *mut [f32; 16],
-    ) -> Answer;
-    fn tns_decode(
-        duration: u8,
-        bandwidth: u8,
-        filters: u8,
-        orders: *const u8,
-        orders_len: usize,
-        indices: *const u8,
-        indices_len: usize,
-        lines: *mut f32,
-        lines_len: usize,
-    ) -> Answer;
-    fn tns_cost(
-        weighting: u8,
-        filters: u8,
-        orders: *const u8,
-        orders_len: usize,
-        indices: *const u8,
-        indices_len: usize,
-    ) -> Answer;
 }
 
 pub fn encode(

@@ -22,43 +22,12 @@ const FIRST_MASK: u32 = 0x0080;
 const DIVIDE_BY_ZERO: u32 = 0x0004;
 
 /// The exports as the crate declares them.
-mod unguarded {
-    #[repr(C)]
-    pub struct Answer {
-        pub numbers: [u16; 4],
-    }
+#[path = "../src/exports.rs"]
+mod unguarded;
 
-    extern "C" {
-        pub fn tns_encode(
-            duration: u8,
-            bandwidth: u8,
-            bits: u64,
-            near_nyquist: bool,
-            lines: *mut f32,
-            lines_len: usize,
-            side: *mut [u8; 20],
-            coefficients: *mut [f32; 16],
-        ) -> Answer;
-        pub fn tns_decode(
-            duration: u8,
-            bandwidth: u8,
-            filters: u8,
-            orders: *const u8,
-            orders_len: usize,
-            indices: *const u8,
-            indices_len: usize,
-            lines: *mut f32,
-            lines_len: usize,
-        ) -> Answer;
-        pub fn tns_cost(
-            weighting: u8,
-            filters: u8,
-            orders: *const u8,
-            orders_len: usize,
-            indices: *const u8,
-            indices_len: usize,
-        ) -> Answer;
-    }
+/// An answer's four numbers.
+fn numbers(answer: unguarded::Answer) -> [u16; 4] {
+    [answer.refusal, answer.place, answer.found, answer.bits]
 }
 
 fn word_now() -> u32 {
@@ -207,7 +176,7 @@ fn encode_unguarded(word: u32, lines: &[f32]) -> (Outcome, u32) {
             &mut coefficients,
         )
     });
-    let said = answer.numbers.into_iter().map(u32::from);
+    let said = numbers(answer).into_iter().map(u32::from);
     let said = said.chain(side.map(u32::from));
     (
         Outcome::new(said.chain(bits_of(&coefficients)), &lines),
@@ -234,7 +203,7 @@ fn decode_orders_unguarded(orders: [u8; 2], word: u32, lines: &[f32]) -> (Outcom
             lines.len(),
         )
     });
-    let said = answer.numbers.map(u32::from);
+    let said = numbers(answer).map(u32::from);
     (Outcome::new(said, &lines), after)
 }
 
@@ -249,7 +218,7 @@ fn cost_unguarded(word: u32, orders: [u8; 2]) -> [u16; 4] {
             INDICES.len(),
         )
     });
-    answer.numbers
+    numbers(answer)
 }
 
 fn falling(loudest: f32) -> Vec<f32> {

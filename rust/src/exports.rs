@@ -1,0 +1,44 @@
+//! The library's three functions as C sees them. The contracts of these functions are proved; that the
+//! shapes here are theirs is for a reader to see in `crates/tns/src/lib.rt`.
+
+/// What a call answers: refusal 0 says that it is accepted.
+#[derive(Clone, Copy)]
+#[repr(C)]
+pub struct Answer {
+    pub refusal: u16,
+    pub place: u16,
+    pub found: u16,
+    pub bits: u16,
+}
+
+extern "C" {
+    pub fn tns_encode(
+        duration: u8,
+        bandwidth: u8,
+        bits: u64,
+        near_nyquist: bool,
+        lines: *mut f32,
+        lines_len: usize,
+        side: *mut [u8; 20],
+        coefficients: *mut [f32; 16],
+    ) -> Answer;
+    pub fn tns_decode(
+        duration: u8,
+        bandwidth: u8,
+        filters: u8,
+        orders: *const u8,
+        orders_len: usize,
+        indices: *const u8,
+        indices_len: usize,
+        lines: *mut f32,
+        lines_len: usize,
+    ) -> Answer;
+    pub fn tns_cost(
+        weighting: u8,
+        filters: u8,
+        orders: *const u8,
+        orders_len: usize,
+        indices: *const u8,
+        indices_len: usize,
+    ) -> Answer;
+}
