@@ -1,15 +1,17 @@
 -- Laws of the cost that callers use in place of its text: a filter within the limits costs at most 84 bits, two of them at most 168, and every
 -- sum on the way is below 2 ^ 24. Each rests on a law of the tables.
 use mathlib.Core.Path.{_≡_}
-use mathlib.Core.List.{List, [], _∷_}
+use mathlib.Core.List.{List}
 use Prim.Native.Nat.{ℕ, zero, suc, _+_, _*_, _^_, _≤_, _<_}
 use lib.Dec.{ltb}
 use native.Mathlib.Omega.{arith}
-use lib.ListN.{length, getD, take, drop, length-take}
-use Rattle.tns_refusals.specs.Refusals.{numbered, placed, Verdict, accepted, refused, bitsIn, itsBits, lowestOver, SoundSide}
-use Rattle.tns_refusals.specs.declared.Over.the-variants.{Nowhere}
+use lib.ListN.{getD, take, drop, length-take}
+use lib.Seq.{getD-drop}
+use Rattle.tns_lists.specs.Counted.{counted, total}
+use Rattle.tns_lists.proofs.Counted.{none-of-them, one-of-them, two-of-them}
+use Rattle.tns_refusals.specs.Refusals.{numbered, placed, Verdict, accepted, refused, bitsIn, itsBits, SoundSide}
 use Rattle.tns_refusals.proofs.Checks.{check-by, sides-by}
-use Rattle.tns_refusals.proofs.Sides.{none-over, none-further}
+use Rattle.tns_refusals.proofs.Sides.{none-over}
 use Rattle.tns_tables.proofs.Costs.{order-cost-affordable, order-cost-at-most, index-costs-at-most}
 use Rattle.tns_cost.specs.Cost.{orderCost, indexCosts, filterCost, filterBits, countedBits, costOf}
 
@@ -30,22 +32,20 @@ unfolding filterBits
 filter-bits-at-most weighting order indices h = omega (arith, filter-cost-at-most weighting order indices h)
 
 -- at most 84 bits for each counted filter
-pub counted-bits-at-most : (weighting filters place : ℕ) (orders indices : List ℕ) → lowestOver 8 place orders ≡ Nowhere
-    → countedBits weighting filters orders indices ≤ 84 * filters
-unfolding countedBits
-counted-bits-at-most weighting zero place orders indices none = omega arith
-counted-bits-at-most weighting (suc filters) place [] indices none = omega arith
-counted-bits-at-most weighting (suc filters) place (order ∷ orders) indices none =
+pub counted-bits-at-most : (weighting filters : ℕ) (orders indices : List ℕ) → ((i : ℕ) → getD orders i 0 ≤ 8) → countedBits weighting filters orders indices ≤ 84 * filters
+unfolding countedBits counted total
+counted-bits-at-most weighting zero orders indices few = omega arith
+counted-bits-at-most weighting (suc filters) orders indices few =
     omega (
       arith,
-      filter-bits-at-most weighting order (take 8 indices) (none-over 8 place (order ∷ orders) none 0),
-      counted-bits-at-most weighting filters (suc place) orders (drop 8 indices) (none-further 8 place order orders none),
+      filter-bits-at-most weighting (getD orders 0 0) (take 8 indices) (few 0),
+      counted-bits-at-most weighting filters (drop 1 orders) (drop 8 indices) (λ i. rw (getD-drop 1 orders i 0) (few (1 + i))),
     )
 
 -- at most 168 bits for side data that no check refuses
 pub counted-at-most : (weighting filters : ℕ) (orders indices : List ℕ) → SoundSide filters orders indices → countedBits weighting filters orders indices ≤ 168
 counted-at-most weighting filters orders indices sound =
-    omega (arith, counted-bits-at-most weighting filters 0 orders indices (sound .orders-at-most-8), sound .count-at-most-2)
+    omega (arith, counted-bits-at-most weighting filters orders indices (none-over 8 0 orders (sound .orders-at-most-8)), sound .count-at-most-2)
 
 -- ---- what the cost call says
 
@@ -89,15 +89,16 @@ sums-below weighting order counted indices h =
 pub last-sum-below : (weighting order : ℕ) (indices : List ℕ) → order ≤ 8 → 2048 + filterCost weighting order indices < 2 ^ 24
 last-sum-below weighting order indices h = omega (arith, filter-cost-at-most weighting order indices h)
 
--- the bits of the first filter, and of the first two, of two orders
-pub one-counted : (weighting : ℕ) (orders indices : List ℕ) → length orders ≡ 2 → countedBits weighting 1 orders indices ≡ filterBits weighting (getD orders 0 0) (take 8 indices)
-unfolding countedBits
-one-counted weighting [] indices e = absurd (omega arith)
-one-counted weighting (o ∷ os) indices e = omega arith
+-- the bits of no filter, of the first, and of the first two
+pub none-counted : (weighting : ℕ) (orders indices : List ℕ) → countedBits weighting 0 orders indices ≡ 0
+unfolding countedBits total
+none-counted weighting orders indices = rw (none-of-them (filterBits weighting) orders indices)
 
-pub two-counted : (weighting : ℕ) (orders indices : List ℕ) → length orders ≡ 2
+pub one-counted : (weighting : ℕ) (orders indices : List ℕ) → countedBits weighting 1 orders indices ≡ filterBits weighting (getD orders 0 0) (take 8 indices)
+unfolding countedBits total
+one-counted weighting orders indices = rw (one-of-them (filterBits weighting) orders indices) (omega arith)
+
+pub two-counted : (weighting : ℕ) (orders indices : List ℕ)
     → countedBits weighting 2 orders indices ≡ filterBits weighting (getD orders 0 0) (take 8 indices) + filterBits weighting (getD orders 1 0) (take 8 (drop 8 indices))
-unfolding countedBits
-two-counted weighting [] indices e = absurd (omega arith)
-two-counted weighting (o ∷ []) indices e = absurd (omega arith)
-two-counted weighting (o ∷ p ∷ os) indices e = omega arith
+unfolding countedBits total
+two-counted weighting orders indices = rw (two-of-them (filterBits weighting) orders indices) (omega arith)

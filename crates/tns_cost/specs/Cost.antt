@@ -1,9 +1,10 @@
 -- Document 01, "Cost": what the side data of a frame costs in bits, and the answer of the cost call.
 use mathlib.Core.Path.{_≡_}
-use mathlib.Core.List.{List, [], _∷_}
-use Prim.Native.Nat.{ℕ, zero, suc, _+_, _/_, _≤_}
+use mathlib.Core.List.{List}
+use Prim.Native.Nat.{ℕ, _+_, _/_, _≤_}
 use lib.Dec.{ltb}
-use lib.ListN.{take, drop}
+use lib.ListN.{take}
+use Rattle.tns_lists.specs.Counted.{counted, total}
 use Rattle.tns_tables.specs.Tables.{ofOrder, orderBits, coefBits, cellsFrom}
 use Rattle.tns_refusals.specs.Refusals.{Verdict, accepted, refused, bitsIn, itsBits, check, sideChecks, says}
 use Rattle.tns_cost.specs.declared.budget.CostAnswer.{CostAnswer}
@@ -29,12 +30,9 @@ pub record FilterPriced (weighting order : ℕ) (indices : List ℕ) (result : �
   pub bits : result ≡ filterBits weighting order indices
   pub few : order ≤ 8 → result ≤ 84
 
--- Per counted filter. Each has one of the orders and the next eight of the indices.
+-- per counted filter
 unfoldable pub countedBits : ℕ → ℕ → List ℕ → List ℕ → ℕ
-countedBits weighting zero orders indices = 0
-countedBits weighting (suc filters) [] indices = 0
-countedBits weighting (suc filters) (order ∷ orders) indices =
-    filterBits weighting order (take 8 indices) + countedBits weighting filters orders (drop 8 indices)
+countedBits weighting filters orders indices = total (counted (filterBits weighting) filters orders indices)
 
 -- the cost call: the checks in number order, 8 being a weighting over 1, and then the bits
 unfoldable pub costOf : ℕ → ℕ → List ℕ → List ℕ → Verdict ℕ

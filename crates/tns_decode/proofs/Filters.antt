@@ -1,25 +1,19 @@
 -- What none, one and two counted filters make of a spectrum, and what filters of order 0 do: nothing.
-use mathlib.Core.Path.{_≡_, refl, sym, _∙_, ap}
-use mathlib.Core.List.{List, [], _∷_}
+use mathlib.Core.Path.{_≡_}
+use mathlib.Core.List.{List}
 use Prim.Native.Nat.{ℕ, zero, suc, _≤_}
 use native.Mathlib.Nat.{le-of-suc-le-suc, not-suc-le-zero}
 use lib.Ieee.{Float}
 use lib.ListN.{getD, take, drop, length}
-use lib.Seq.{getD-drop}
+use Rattle.tns_lists.proofs.Counted.{none-of-them, one-of-them, two-of-them}
 use Rattle.tns_rows.specs.declared.row.Row.{Row}
 use Rattle.tns_rows.proofs.Bands.{SoundRow}
 use Rattle.tns_lattices.specs.Lattice.{atRest}
 use Rattle.tns_lattices.specs.DecoderLattice.{lineDecoded}
 use Rattle.tns_lattices.proofs.Idle.{decoder-idle}
-use Rattle.tns_filters.specs.Filters.{Filter, rowFiltered, FilteredIn}
+use Rattle.tns_filters.specs.Filters.{Filter, FilteredIn}
 use Rattle.tns_filters.proofs.Filters.{none-filtered, one-filtered, two-filtered, idle-filter}
-use Rattle.tns_decode.specs.Decoder.{decoderFilter, countedFilters, rowDecoded}
-
--- as many filters as are counted
-pub counted-length : (filters : ℕ) (orders indices : List ℕ) → length (countedFilters filters orders indices) ≡ filters
-unfolding countedFilters
-counted-length zero orders indices = refl
-counted-length (suc filters) orders indices = ap suc (counted-length filters (drop 1 orders) (drop 8 indices))
+use Rattle.tns_decode.specs.Decoder.{decoderFilter, rowDecoded}
 
 module _ (row : Row) (orders indices : List ℕ) (lines : List Float) where
   -- the first filter, and the second
@@ -30,20 +24,17 @@ module _ (row : Row) (orders indices : List ℕ) (lines : List Float) where
   second = decoderFilter (getD orders 1 0) (take 8 (drop 8 indices))
 
   pub none-decoded : lines ≡ rowDecoded row 0 orders indices lines
-  unfolding rowDecoded countedFilters
-  none-decoded = none-filtered lineDecoded row lines
+  unfolding rowDecoded
+  none-decoded = rw (none-of-them decoderFilter orders indices) (none-filtered lineDecoded row lines)
 
   pub one-decoded : (after left : List Float) → FilteredIn lineDecoded (row .first) first atRest lines after left → left ≡ rowDecoded row 1 orders indices lines
-  unfolding rowDecoded countedFilters
-  one-decoded after left a = one-filtered lineDecoded row lines first after left a
+  unfolding rowDecoded
+  one-decoded after left a = rw (one-of-them decoderFilter orders indices) (one-filtered lineDecoded row lines first after left a)
 
   pub two-decoded : (after left end result : List Float) → FilteredIn lineDecoded (row .first) first atRest lines after left
       → FilteredIn lineDecoded (row .second) second after left end result → result ≡ rowDecoded row 2 orders indices lines
-  unfolding rowDecoded countedFilters
-  two-decoded after left end result a b = two-filtered lineDecoded row lines first second after left end result a b ∙ ap both (sym (getD-drop 1 orders 0 0))
-    where
-      both : ℕ → List Float
-      both order = rowFiltered lineDecoded row (first ∷ decoderFilter order (take 8 (drop 8 indices)) ∷ []) lines
+  unfolding rowDecoded
+  two-decoded after left end result a b = rw (two-of-them decoderFilter orders indices) (two-filtered lineDecoded row lines first second after left end result a b)
 
   -- where the counted filters have order 0, nothing changes
   module _ (sound : SoundRow row (length lines)) (first-idle : getD orders 0 0 ≡ 0) where

@@ -5,6 +5,7 @@ use mathlib.Core.List.{List, [], _∷_}
 use Prim.Native.Nat.{ℕ}
 use lib.Ieee.{Float}
 use lib.ListN.{length}
+use Rattle.tns_lists.specs.Counted.{counted}
 use Rattle.tns_lists.specs.Lines.{linesThrough}
 use Rattle.tns_refusals.specs.Refusals.{sideChecks}
 use Rattle.tns_rows.specs.Durations.{durationOf}
@@ -12,7 +13,7 @@ use Rattle.tns_rows.specs.Bands.{rowOf, noBand, within}
 use Rattle.tns_rows.specs.declared.row.Row.{Row}
 use Rattle.tns_lattices.specs.Lattice.{Lattice, linesBy}
 use Rattle.tns_filters.specs.Filters.{bandsFiltered, rowFiltered}
-use Rattle.tns_decode.specs.Decoder.{countedFilters, rowDecoded, decodeChecks, spectrumDecoded}
+use Rattle.tns_decode.specs.Decoder.{rowDecoded, decodeChecks, spectrumDecoded}
 
 -- no line, and so no change
 nowhere : (lattice : Lattice) (q : List Float) (order : ℕ) (states lines : List Float) → within noBand (linesBy lattice q order states) lines ≡ lines
@@ -21,7 +22,7 @@ nowhere lattice q order states lines = refl
 
 twice-is-once : (row : Row) (orders indices : List ℕ) (lines : List Float) → row .second ≡ noBand
     → rowDecoded row 2 orders indices lines ≡ rowDecoded row 1 orders indices lines
-unfolding rowDecoded countedFilters rowFiltered bandsFiltered
+unfolding rowDecoded counted rowFiltered bandsFiltered
 twice-is-once row orders indices lines none = rw none (nowhere _ _ _ _ _)
 
 -- the two calls pass the same checks

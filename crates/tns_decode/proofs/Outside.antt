@@ -5,6 +5,8 @@ use mathlib.Core.List.{List}
 use Prim.Native.Nat.{ℕ, _≤_, _<_}
 use lib.Ieee.{Float, nan}
 use lib.ListN.{length, getD}
+use Rattle.tns_lists.specs.Counted.{counted}
+use Rattle.tns_lists.proofs.Counted.{counted-length}
 use Rattle.tns_refusals.specs.Refusals.{Verdict, accepted, noFault, sideChecks}
 use Rattle.tns_rows.specs.Durations.{numbersOf, durationOf}
 use Rattle.tns_rows.specs.Bands.{rowOf, bandOf, lastStop, inside}
@@ -15,8 +17,7 @@ use Rattle.tns_frames.proofs.Frames.{accepted-row}
 use Rattle.tns_lattices.specs.DecoderLattice.{lineDecoded}
 use Rattle.tns_filters.specs.Filters.{Filter}
 use Rattle.tns_filters.proofs.Calls as calls
-use Rattle.tns_decode.specs.Decoder.{countedFilters, rowDecoded, decodeChecks, spectrumDecoded}
-use Rattle.tns_decode.proofs.Filters.{counted-length}
+use Rattle.tns_decode.specs.Decoder.{decoderFilter, rowDecoded, decodeChecks, spectrumDecoded}
 
 module _ (duration bandwidth filters : ℕ) (orders indices : List ℕ) where
   abbrev row : Row
@@ -29,10 +30,10 @@ module _ (duration bandwidth filters : ℕ) (orders indices : List ℕ) where
   verdict lines = decodeChecks duration bandwidth filters orders indices (length lines)
 
   abbrev acting : Unit {0} → List Filter
-  acting u = countedFilters filters orders indices
+  acting u = counted decoderFilter filters orders indices
 
-  counted : (u : Unit {0}) → length (acting u) ≡ filters
-  counted u = counted-length filters orders indices
+  as-counted : (u : Unit {0}) → length (acting u) ≡ filters
+  as-counted u = counted-length decoderFilter filters orders indices
 
   sound : (lines : List Float) (u : Unit {0}) → verdict lines ≡ accepted u → SoundRow row (length lines)
   unfolding decodeChecks
@@ -41,26 +42,26 @@ module _ (duration bandwidth filters : ℕ) (orders indices : List ℕ) where
   -- a call leaves as many lines as it finds
   pub as-many-lines : (lines : List Float) → length (after lines) ≡ length lines
   unfolding spectrumDecoded rowDecoded
-  as-many-lines lines = calls.as-many-lines lineDecoded (durationOf duration) bandwidth verdict acting filters counted sound lines
+  as-many-lines lines = calls.as-many-lines lineDecoded (durationOf duration) bandwidth verdict acting filters as-counted sound lines
 
   -- lines outside the bands of the counted filters never change
   pub outside-never-changes : (lines : List Float) (i : ℕ) → ((k : ℕ) → k < filters → Outside (bandOf row k) i) → getD (after lines) i nan ≡ getD lines i nan
   unfolding spectrumDecoded rowDecoded
-  outside-never-changes lines i outside = calls.outside-never-changes lineDecoded (durationOf duration) bandwidth verdict acting filters counted sound lines i outside
+  outside-never-changes lines i outside = calls.outside-never-changes lineDecoded (durationOf duration) bandwidth verdict acting filters as-counted sound lines i outside
 
   -- so no line before the duration's first line does, whatever the bandwidth and the count, and none from the row's last stop on
   pub early-lines-stay : (lines : List Float) (i : ℕ) → i < numbersOf (durationOf duration) .firstLine → getD (after lines) i nan ≡ getD lines i nan
   unfolding spectrumDecoded rowDecoded
-  early-lines-stay lines i h = calls.early-lines-stay lineDecoded (durationOf duration) bandwidth verdict acting filters counted sound lines i h
+  early-lines-stay lines i h = calls.early-lines-stay lineDecoded (durationOf duration) bandwidth verdict acting filters as-counted sound lines i h
 
   pub late-lines-stay : (lines : List Float) (i : ℕ) → lastStop row ≤ i → getD (after lines) i nan ≡ getD lines i nan
   unfolding spectrumDecoded rowDecoded
-  late-lines-stay lines i h = calls.late-lines-stay lineDecoded (durationOf duration) bandwidth verdict acting filters counted sound lines i h
+  late-lines-stay lines i h = calls.late-lines-stay lineDecoded (durationOf duration) bandwidth verdict acting filters as-counted sound lines i h
 
   -- and they affect nothing: two spectra that agree inside the bands of the counted filters are decoded to spectra that agree there
   pub outside-affects-nothing : (xs ys : List Float) → length xs ≡ length ys → ((k : ℕ) → k < filters → inside (bandOf row k) xs ≡ inside (bandOf row k) ys)
       → (k : ℕ) → k < filters → inside (bandOf row k) (after xs) ≡ inside (bandOf row k) (after ys)
   unfolding spectrumDecoded rowDecoded
   outside-affects-nothing xs ys long agree k h =
-      calls.outside-affects-nothing lineDecoded (durationOf duration) bandwidth verdict acting filters counted sound xs ys
+      calls.outside-affects-nothing lineDecoded (durationOf duration) bandwidth verdict acting filters as-counted sound xs ys
       (ap (decodeChecks duration bandwidth filters orders indices) long) agree k h

@@ -1,9 +1,10 @@
 -- The decode call: its answer, and the spectrum after it.
 use mathlib.Core.Path.{_≡_}
-use mathlib.Core.List.{List, [], _∷_, map}
+use mathlib.Core.List.{List, map}
 use Prim.Native.Nat.{ℕ, zero, suc}
-use lib.ListN.{getD, take, drop, length}
+use lib.ListN.{length}
 use lib.Ieee.{Float}
+use Rattle.tns_lists.specs.Counted.{counted}
 use Rattle.tns_rounding.specs.Floats.{f0}
 use Rattle.tns_refusals.specs.Refusals.{Verdict, refused, unlessRefused, noFault, says, sideChecks}
 use Rattle.tns_index.specs.Quantizer.{coefficientOf}
@@ -25,14 +26,9 @@ decoderCoefficient (suc i) = coefficientOf (suc i)
 abbrev pub decoderFilter : ℕ → List ℕ → Filter
 decoderFilter order indices = filterWith (map decoderCoefficient indices) order
 
--- the counted filters: each has one of the orders and the next eight of the indices
-unfoldable pub countedFilters : ℕ → List ℕ → List ℕ → List Filter
-countedFilters zero orders indices = []
-countedFilters (suc filters) orders indices = decoderFilter (getD orders 0 0) (take 8 indices) ∷ countedFilters filters (drop 1 orders) (drop 8 indices)
-
--- they act on the row's bands in turn
+-- the counted filters act on the row's bands in turn
 unfoldable pub rowDecoded : Row → ℕ → List ℕ → List ℕ → List Float → List Float
-rowDecoded row filters orders indices lines = rowFiltered lineDecoded row (countedFilters filters orders indices) lines
+rowDecoded row filters orders indices lines = rowFiltered lineDecoded row (counted decoderFilter filters orders indices) lines
 
 -- refusals 1 to 7, in number order
 unfoldable pub decodeChecks : ℕ → ℕ → ℕ → List ℕ → List ℕ → ℕ → Verdict (Unit {0})

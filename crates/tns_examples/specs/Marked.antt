@@ -11,6 +11,7 @@ use Rattle.tns_tables.specs.Tables.{ofOrder, cellsFrom}
 use Rattle.tns_rounding.specs.Floats.{f1}
 use Rattle.tns_index.specs.Quantizer.{indexOf, notAbove}
 use Rattle.tns_refusals.specs.Refusals.{unlessRefused, sideChecks, lowestOver}
+use Rattle.tns_lists.specs.Counted.{counted, total}
 use Rattle.tns_cost.specs.Cost.{costOf, countedBits, filterBits, filterCost, orderCost, indexCosts}
 use Rattle.tns_rows.specs.Durations.{weightingOf, numbersOf}
 use Rattle.tns_rows.specs.declared.duration.Duration.{Duration}
@@ -53,5 +54,5 @@ right (weighs duration nbits weighting) = eqb (weightingOf (numbersOf duration) 
 right (quantizes x index) = eqb (indexOf x) index
 
 pub marked-cases-hold : every right marked ≡ true
-unfolding marked right padded costOf sideChecks lowestOver countedBits filterBits filterCost orderCost ofOrder indexCosts cellsFrom weightingOf indexOf notAbove le neg ofBits
+unfolding marked right padded costOf sideChecks lowestOver countedBits counted total filterBits filterCost orderCost ofOrder indexCosts cellsFrom weightingOf indexOf notAbove le neg ofBits
 marked-cases-hold = refl

@@ -1,5 +1,6 @@
 -- The laws of lists.
 pub mod Every
+pub mod Counted
 pub mod Parts
 pub mod InPlace
 pub mod Filled

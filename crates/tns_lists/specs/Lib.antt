@@ -1,4 +1,5 @@
 -- What a reader has to believe of lists.
 pub mod Every
+pub mod Counted
 pub mod Lines
 pub mod Places

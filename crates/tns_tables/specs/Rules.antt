@@ -5,11 +5,8 @@ use mathlib.Core.List.{List, [], _∷_}
 use Prim.Native.Nat.{ℕ, suc, _+_, _*_}
 use lib.Dec.{eqb, leb}
 use Rattle.tns_lists.specs.Every.{every}
+use Rattle.tns_lists.specs.Counted.{total}
 use Rattle.tns_tables.specs.Tables.{orderBits, orderFreq, orderCumfreq, coefBits, coefFreq, coefCumfreq}
-
-unfoldable pub total : List ℕ → ℕ
-total [] = 0
-total (x ∷ xs) = x + total xs
 
 -- a frequency row sums to 1024
 unfoldable pub sums : List ℕ → Bool

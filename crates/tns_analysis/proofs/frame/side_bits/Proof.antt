@@ -1,5 +1,5 @@
 -- Each filter is rounded up by itself.
-use mathlib.Core.Path.{_≡_, refl, sym, _∙_}
+use mathlib.Core.Path.{_≡_, sym, _∙_}
 use Prim.Native.Nat.{ℕ, _+_, _≤_}
 use native.Mathlib.Omega.{arith}
 use borrow.Author.Needs.{needs}
@@ -18,7 +18,7 @@ only-two n h k d = omega arith
 
 module _ (s : SideData) (p : Reported s) where
   one-filter : s .filters ≡ 1 → filterBits (s .weighting) (s .first .order) (s .first .indices) ≡ bitsOf s
-  one-filter e = rw e (sym (one-counted (s .weighting) _ _ refl ∙ rw (take-at (s .first .indices) (s .second .indices) 8 (p .first .eight-indices))))
+  one-filter e = rw e (sym (one-counted (s .weighting) _ _ ∙ rw (take-at (s .first .indices) (s .second .indices) 8 (p .first .eight-indices))))
 
   two-filters : (s .filters ≡ 1 → ⊥)
       → filterBits (s .weighting) (s .first .order) (s .first .indices) + filterBits (s .weighting) (s .second .order) (s .second .indices) ≡ bitsOf s
@@ -27,7 +27,7 @@ module _ (s : SideData) (p : Reported s) where
       let js = s .second .indices in
       let e = only-two (s .filters) (p .one) (p .two) d in
       let all : take 8 js ≡ js = take-all 8 js (omega (arith, p .second .eight-indices)) in
-      rw e (sym (two-counted (s .weighting) _ _ refl ∙ rw (take-at is js 8 (p .first .eight-indices), drop-at is js 8 (p .first .eight-indices), all)))
+      rw e (sym (two-counted (s .weighting) _ _ ∙ rw (take-at is js 8 (p .first .eight-indices), drop-at is js 8 (p .first .eight-indices), all)))
 
 returns : tie.Need-returns
 returns c =

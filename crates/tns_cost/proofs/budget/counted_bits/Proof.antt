@@ -6,19 +6,20 @@ use borrow.Author.Needs.{needs}
 use lib.ListN.{getD, take, drop}
 use Rattle.tns_cost.specs.Cost.{countedBits, filterBits}
 use Rattle.tns_refusals.proofs.Sides.{none-over}
-use Rattle.tns_cost.proofs.Costs.{one-counted, two-counted}
+use Rattle.tns_cost.proofs.Costs.{none-counted, one-counted, two-counted}
 use Rattle.tns_cost.proofs.budget.counted_bits.Statement.{statement}
 use Rattle.tns_cost.proofs.budget.counted_bits.Tie as tie
 
 returns : tie.Need-returns
-unfolding countedBits
-returns c = rw (c .if1 .taken)
+returns c =
+    let g = c .before .before .before .args in
+    sym (rw (c .if1 .taken) (none-counted (g .weighting) (g .orders .now) (g .indices .now)))
 
 returns-2 : tie.Need-returns-2
 returns-2 c =
     let start = c .before .before .before .before .before .before .before in
     let g = start .args in
-    c .before .filter-bits .ensures .bits ∙ sym (rw (c .if2 .taken) (one-counted (g .weighting) (g .orders .now) (g .indices .now) (start .pre .two-orders)))
+    c .before .filter-bits .ensures .bits ∙ sym (rw (c .if2 .taken) (one-counted (g .weighting) (g .orders .now) (g .indices .now)))
 
 add-result : tie.Need-add-result
 add-result c =
@@ -36,7 +37,7 @@ returns-3 c =
     let both : g .filters ≡ 2 = omega (arith, start .pre .count-at-most-2, c .before .before .before .if2 .left) in
     let counted : countedBits (g .weighting) (g .filters) (g .orders .now) (g .indices .now)
     ≡ filterBits (g .weighting) (getD (g .orders .now) 0 0) (take 8 (g .indices .now)) + filterBits (g .weighting) (getD (g .orders .now) 1 0) (take 8 (drop 8 (g .indices .now))) =
-    rw both (two-counted (g .weighting) (g .orders .now) (g .indices .now) (start .pre .two-orders))
+    rw both (two-counted (g .weighting) (g .orders .now) (g .indices .now))
     in
     omega (arith, first .ensures .bits, c .filter-bits2 .ensures .bits, counted)
 
