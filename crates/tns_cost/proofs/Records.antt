@@ -1,11 +1,10 @@
 -- The layout of a record is one: what is written is read back, and what is read gives the bytes back.
-use mathlib.Core.Path.{_≡_, refl, sym, _∙_, ap}
+use mathlib.Core.Path.{_≡_, refl}
 use mathlib.Core.List.{List, [], _∷_, _++_}
 use Prim.Native.Nat.{ℕ, _≤_}
 use native.Mathlib.Omega.{arith}
-use lib.ListN.{length, getD, take, drop}
+use lib.ListN.{length, take, drop}
 use lib.Seq.{take-at, drop-at, take-all}
-use Rattle.tns_lists.specs.Places.{part}
 use Rattle.tns_cost.specs.Records.{Fields, fieldsOf, bytesOf}
 
 pub read-back : (fields : Fields) → length (fields .orders) ≡ 2 → length (fields .indices) ≡ 16 → fieldsOf (bytesOf fields) ≡ fields

@@ -1,7 +1,7 @@
 -- Document 01, "Lattices": a count of 2 on a one-band row acts once. It leaves what a count of 1 does, whatever the second filter's order and
 -- indices.
 use mathlib.Core.Path.{_≡_, refl}
-use mathlib.Core.List.{List, [], _∷_}
+use mathlib.Core.List.{List}
 use Prim.Native.Nat.{ℕ}
 use lib.Ieee.{Float}
 use lib.ListN.{length}

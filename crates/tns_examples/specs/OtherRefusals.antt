@@ -21,5 +21,5 @@ stands why next = refl
 leaves : {A B : Type 0} (why : TextRefusal) (made : A → B) (before : B) → unlessRefused (refused (textSays why)) made before ≡ before
 leaves why made before = refl
 
-told : (A : Type 0) → (ofFault {A = A} numberOf (refused (textSays (badLine 70000 3))) ≡ 15) × (ofFault {A = A} placeOf (refused (textSays (badLine 70000 3))) ≡ 70000)
-told A = (refl, refl)
+number-and-place : (A : Type 0) → (ofFault {A = A} numberOf (refused (textSays (badLine 70000 3))) ≡ 15) × (ofFault {A = A} placeOf (refused (textSays (badLine 70000 3))) ≡ 70000)
+number-and-place A = (refl, refl)

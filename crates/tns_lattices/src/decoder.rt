@@ -4,7 +4,7 @@ use crate::Passed;
 ghost use mathlib.Core.Path.{_≡_};
 ghost use Prim.Native.Nat.{_<_, _≤_, min};
 ghost use Rattle.tns_lattices.specs.Lattice.{Filtered};
-ghost use Rattle.tns_lattices.specs.DecoderLattice.{stageDown, stagesBelow, passing, lineDecoded};
+ghost use Rattle.tns_lattices.specs.DecoderLattice.{lineDecoded};
 
 // One line through a filter of order 1 to 8.
 fn line_decoded(q: [f32; 8], order: usize, states: [f32; 8], line: f32) -> Passed

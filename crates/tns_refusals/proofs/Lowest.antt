@@ -1,17 +1,15 @@
 -- The search for the lowest number over a limit, from a place on: what one more place makes of it.
-use mathlib.Core.Path.{_≡_, refl, sym, _∙_, ap, subst}
-use mathlib.Core.Bool.{Bool, true, false}
-use mathlib.Core.List.{List, []}
-use Prim.Native.Nat.{ℕ, suc, _+_, _<_, _≤_}
+use mathlib.Core.Path.{_≡_, sym, _∙_, ap, subst}
+use mathlib.Core.Bool.{true, false}
+use mathlib.Core.List.{List}
+use Prim.Native.Nat.{ℕ, _+_, _<_, _≤_}
 use native.Mathlib.Nat.{lt-of-not-le}
 use native.Mathlib.Numerals.{add-one}
-use native.Mathlib.Omega.{arith}
 use borrow.Author.Tests.{lt-ltb, le-ltb}
 use lib.Dec.{T}
 use lib.ListN.{length, drop, getD, drop-of-length-le}
 use lib.Seq.{drop-cons}
 use Rattle.tns_refusals.specs.Refusals.{lowestOver, isNowhere}
-use Rattle.tns_refusals.specs.declared.Over.{Over}
 use Rattle.tns_refusals.specs.declared.Over.the-variants.{Nowhere, At}
 
 pub here : (limit : ℕ) (xs : List ℕ) (i : ℕ) → i < length xs → limit < getD xs i 0 → lowestOver limit i (drop i xs) ≡ At i (getD xs i 0)

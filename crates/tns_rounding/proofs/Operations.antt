@@ -1,12 +1,11 @@
 -- One product and one sum of f32 numbers, with their signs: each is within half a unit in the last place of the exact one, and of at most its
 -- bound in size. The numbers are told in units: x is ±a units of 2^-149, and a factor q is ±b parts of 1/d.
-use mathlib.Core.Path.{_≡_, refl, sym, ap, _∙_, subst}
+use mathlib.Core.Path.{_≡_, refl, sym, ap, _∙_}
 use mathlib.Core.Bool.{Bool, true, false, not, _&&_, cond}
-use Prim.Native.Nat.{ℕ, zero, suc, _+_, _-_, _*_, _^_, _≤_, _<_}
+use Prim.Native.Nat.{ℕ, _+_, _-_, _*_, _^_, _≤_, _<_}
 use native.Mathlib.Nat.{le-of-lt, mul-pos, mul-le-mul-right, le-of-mul-le-mul-right, mul-comm, mul-sub}
 use native.Mathlib.Omega.{arith}
 use lib.Dec.{T, ltb, ltb→lt, nltb→le, lit<}
-use lib.Pow.{pow-pos}
 use lib.Ieee.{Float, nan, inf, fin, unlike, up, down, binary32, round, sum, add, mul}
 use lib.Ieee.Fits.{down-pos}
 use lib.Ieee.Exact.{HasValue}

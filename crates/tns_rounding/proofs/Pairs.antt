@@ -1,6 +1,6 @@
 -- Signed numbers as differences of two naturals: how far two of them are apart, and what sums, products and finer units make of that distance.
 -- In this form each law is one of sums of naturals, which `omega` decides. The last part ties a pair to the whole number that it is.
-use mathlib.Core.Path.{_≡_, refl, sym, ap, _∙_, subst}
+use mathlib.Core.Path.{_≡_, sym}
 use mathlib.Core.Bool.{Bool, true, false, not, cond}
 use Prim.Native.Nat.{ℕ, zero, suc, _+_, _-_, _*_, _≤_, _<_}
 use native.Mathlib.Nat.{mul-le-mul-right}

@@ -1,9 +1,9 @@
 -- The rounding law: how far `round` moves a fraction, and how large its result can be. A fraction of at most 2^j units of 2^-149 moves by
 -- at most half of 2^(j-24) units, or of one unit where that is less, and its result is at most 2^j units.
-use mathlib.Core.Path.{_≡_, refl, sym, ap, _∙_, subst}
+use mathlib.Core.Path.{_≡_, sym, ap, _∙_, subst}
 use mathlib.Core.Logic.{inl, inr}
-use mathlib.Core.Bool.{Bool, true, false, not}
-use Prim.Native.Nat.{ℕ, zero, suc, _+_, _-_, _*_, _/_, _%_, _^_, _≤_, _<_, compare, Ordering, Ordering·lt, Ordering·eq, Ordering·gt}
+use mathlib.Core.Bool.{Bool, false, not}
+use Prim.Native.Nat.{ℕ, _+_, _-_, _*_, _/_, _%_, _^_, _≤_, _<_, compare, Ordering, Ordering·lt, Ordering·eq, Ordering·gt}
 use native.Mathlib.Nat.{le-trans, lt-of-le-of-lt, eq-or-lt-of-le, mul-le-mul-right, mul-le-mul-left, le-of-mul-le-mul-right, eq-of-mul-eq-mul-right, mul-pos, mul-lt-mul-of-pos-right, mod-lt, div-add-mod', div-lt-iff-lt-mul}
 use native.Mathlib.Omega.{arith}
 use lib.Dec.{T, isLe, isEq, leb→le, nleb→lt, eqb→eq, lit<}
@@ -14,7 +14,7 @@ use lib.Ieee.Fits.{nearest-le, round-is}
 use lib.Ieee.Exact.{HasValue, units-val, round-exact}
 use lib.Ieee.Nearest.{closest}
 use lib.Ieee.Scale.{round-same}
-use Rattle.tns_rounding.proofs.Pairs.{Pair, pair, Near, near-wider}
+use Rattle.tns_rounding.proofs.Pairs.{pair, Near, near-wider}
 
 -- the units of 2^-149 in 1
 abbrev pub U : ℕ

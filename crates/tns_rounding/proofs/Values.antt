@@ -1,20 +1,20 @@
 -- What the words of `specs/Units` come to: an f32 that is finite is a whole number of units, one that is at most 2^m starts to be tracked, and
 -- one that is tracked is within its bound.
-use mathlib.Core.Path.{_≡_, refl, sym, ap, _∙_, subst}
+use mathlib.Core.Path.{_≡_, refl, sym, ap, _∙_}
 use mathlib.Core.Bool.{Bool, true, false, _&&_}
-use Prim.Native.Nat.{ℕ, zero, suc, _+_, _-_, _*_, _/_, _%_, _^_, _≤_, _<_}
-use native.Mathlib.Nat.{le-of-suc-le-suc, lt-of-not-le, not-le-of-lt, lt-of-lt-of-le, mul-div-cancel, mul-le-mul-left, mul-le-mul-right}
+use Prim.Native.Nat.{ℕ, zero, suc, _-_, _*_, _%_, _^_, _≤_, _<_}
+use native.Mathlib.Nat.{le-of-suc-le-suc, lt-of-not-le, not-le-of-lt, lt-of-lt-of-le, mul-div-cancel}
 use native.Mathlib.Omega.{arith}
 use lib.Dec.{T, leb, ltb, eqb, leb→le, lit<}
 use lib.Pow.{pow-add, pow-mono}
-use lib.IntN.{ℤ, pos, negsuc, natAbs, _*ℤ_, _-ℤ_}
+use lib.IntN.{ℤ, pos, negsuc, natAbs, _*ℤ_}
 use lib.Ieee.{Float, nan, inf, fin, up, down, binary32, fits}
 use lib.Ieee.Digits.{back}
 use lib.Ieee.Fits.{and-l, and-r, down-pos}
 use lib.Ieee.Exact.{HasValue}
 use lib.Ieee.Scale.{finite}
 use Rattle.tns_rounding.specs.Units.{signed, inUnits, powerInUnits, AtMost, WithinOf}
-use Rattle.tns_rounding.proofs.Pairs.{Pair, pair, _⊡_, Near, near-trans, near-finer, near-wider, Is, is-signed, is-finer, distance}
+use Rattle.tns_rounding.proofs.Pairs.{pair, _⊡_, Near, near-finer, near-wider, is-signed, is-finer, distance}
 use Rattle.tns_rounding.proofs.Rounding.{U}
 use Rattle.tns_rounding.proofs.Steps.{Tracks}
 
@@ -40,7 +40,7 @@ finite-of (fin s m e) negative a c v = tt
 
 -- ---- every finite f32 is a whole number of units of 2^-149
 
-record Told (x : Float) : Type 0 where
+record WholeUnits (x : Float) : Type 0 where
   negative : Bool
   size : ℕ
   value : HasValue x negative size U
@@ -48,7 +48,7 @@ record Told (x : Float) : Type 0 where
 no-finer : (k : ℕ) → 2 ^ suc k ≤ 2 ^ 149 → suc k ≤ 149
 no-finer k h = le-of-suc-le-suc (lt-of-not-le (λ (past : 150 ≤ suc k). not-le-of-lt (lt-of-lt-of-le (lit< tt) (pow-mono past)) h))
 
-whole : (s : Bool) (m : ℕ) (e : ℤ) → down e ≤ 2 ^ 149 → Told (fin s m e)
+whole : (s : Bool) (m : ℕ) (e : ℤ) → down e ≤ 2 ^ 149 → WholeUnits (fin s m e)
 whole s m (pos k) h = record { negative = s; size = m * 2 ^ k * U; value = (refl, once (m * 2 ^ k * U)) }
   where
     once : (z : ℕ) → z ≡ z * 1
@@ -61,15 +61,15 @@ whole s m (negsuc k) h =
     regrouped : (a b : ℕ) → m * 1 * (a * b) ≡ m * a * b
     regrouped a b = omega arith
 
-told : (x : Float) → T (fits binary32 x) → T (finite x) → Told x
+whole-units : (x : Float) → T (fits binary32 x) → T (finite x) → WholeUnits x
 unfolding fits
-told nan f t = absurd t
-told (inf s) f t = absurd t
-told (fin s zero e) f t = record { negative = s; size = 0; value = (refl, none (up e) U (down e)) }
+whole-units nan f t = absurd t
+whole-units (inf s) f t = absurd t
+whole-units (fin s zero e) f t = record { negative = s; size = 0; value = (refl, none (up e) U (down e)) }
   where
     none : (a b c : ℕ) → 0 * a * b ≡ 0 * c
     none a b c = omega arith
-told (fin s (suc m) e) f t =
+whole-units (fin s (suc m) e) f t =
     let odd : Bool = eqb (suc m % 2) 1 && ltb (suc m) (2 ^ 24) in
     let low : Bool = leb (down e) (2 ^ 149) in
     let high : Bool = ltb (suc m * up e) (2 ^ 128 * down e) in
@@ -85,7 +85,7 @@ abs-signed true (suc n) = refl
 -- an f32 of at most 2^m is its own exact number
 pub enters : (x : Float) (m : ℤ) (j : ℕ) → T (fits binary32 x) → AtMost m x → powerInUnits 149 m ≡ 2 ^ j → Tracks j 1 0 x (inUnits 149 x)
 enters x m j f h e =
-    let t = told x f (h .is-finite) in
+    let t = whole-units x f (h .is-finite) in
     let u : inUnits 149 x ≡ signed (t .negative) (t .size) = in-units x (t .negative) (t .size) 149 149 (omega arith) (t .value) ∙ ap (signed (t .negative)) (once (t .size)) in
     record {
       negative = t .negative;

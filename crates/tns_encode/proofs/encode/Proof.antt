@@ -10,7 +10,6 @@ use Rattle.tns_rows.specs.declared.row.Row.{Row}
 use Rattle.tns_rows.proofs.Bands.{SoundRow}
 use Rattle.tns_frames.specs.Frames.{frameOf, frameSays}
 use Rattle.tns_frames.proofs.Frames.{sound-row}
-use Rattle.tns_analysis.specs.FrameSide.{sideOf}
 use Rattle.tns_encode.specs.Encoder.{weightingIn, encodeSays}
 use Rattle.tns_encode.specs.declared.Encoded.{Encoded}
 use Rattle.tns_encode.proofs.Frames.{refused-frame, accepted-frame, encodes-refused, encodes-accepted}

@@ -1,5 +1,5 @@
 -- The row's band of a sound frame, and none of a refused one.
-use mathlib.Core.Path.{_≡_, refl, sym, _∙_, ap}
+use mathlib.Core.Path.{sym, _∙_, ap}
 use Prim.Native.Nat.{ℕ}
 use borrow.Author.Needs.{needs}
 use Rattle.tns_refusals.specs.Refusals.{Verdict, unlessRefused}

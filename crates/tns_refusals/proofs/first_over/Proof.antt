@@ -1,13 +1,11 @@
 -- The invariant: the search from here on answers what the search of the whole list does, so there
 -- is a number here.
 use mathlib.Core.Path.{_≡_, refl, sym, _∙_, ap}
-use mathlib.Core.Bool.{Bool, true, false}
-use mathlib.Core.List.{List}
-use Prim.Native.Nat.{ℕ, _+_, _-_, _<_, _≤_}
+use mathlib.Core.Bool.{false}
+use Prim.Native.Nat.{_+_, _-_, _<_}
 use native.Mathlib.Omega.{arith}
-use lib.ListN.{length, drop, getD}
+use lib.ListN.{length, drop}
 use Rattle.tns_refusals.specs.Refusals.{lowestOver, isNowhere}
-use Rattle.tns_refusals.specs.declared.Over.{Over}
 use Rattle.tns_refusals.proofs.Lowest.{here, further, not-at-end}
 use Rattle.tns_refusals.proofs.first_over.Statement.{statement}
 use Rattle.tns_refusals.proofs.first_over.Tie as tie

@@ -1,7 +1,7 @@
 -- Nowhere, if no number is over the limit, and else the first that is.
 use mathlib.Core.Path.{_≡_, refl, sym, _∙_, subst}
 use lib.Dec.{T}
-use mathlib.Core.Bool.{Bool, true, false}
+use mathlib.Core.Bool.{true}
 use borrow.Author.Needs.{needs}
 use Rattle.tns_refusals.specs.Refusals.{isNowhere}
 use Rattle.tns_refusals.specs.declared.Over.{Over}

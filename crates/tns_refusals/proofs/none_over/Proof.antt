@@ -1,5 +1,5 @@
 -- The invariant: none so far, and none from here on, is none at all.
-use mathlib.Core.Path.{_≡_, refl, sym, _∙_, ap}
+use mathlib.Core.Path.{_≡_, refl, sym, _∙_}
 use mathlib.Core.Logic.{⊎-elim}
 use mathlib.Core.Bool.{Bool, true, false, _&&_}
 use mathlib.Core.List.{List}
@@ -7,7 +7,6 @@ use Prim.Native.Nat.{ℕ, _+_, _-_, _<_, _≤_}
 use native.Mathlib.Omega.{arith}
 use lib.ListN.{length, drop, getD}
 use Rattle.tns_refusals.specs.Refusals.{lowestOver, isNowhere}
-use Rattle.tns_refusals.specs.declared.Over.{Over}
 use Rattle.tns_refusals.proofs.Lowest.{here, further, none}
 use Rattle.tns_refusals.proofs.none_over.Statement.{statement}
 use Rattle.tns_refusals.proofs.none_over.Tie as tie

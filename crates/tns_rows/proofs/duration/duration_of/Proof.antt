@@ -1,5 +1,5 @@
 -- A code that is not 0 is the successor of one, which is how the definition takes it.
-use mathlib.Core.Path.{_≡_, refl, sym, ap}
+use mathlib.Core.Path.{_≡_, refl}
 use Prim.Native.Nat.{ℕ, zero, suc}
 use borrow.Author.Needs.{needs}
 use Rattle.tns_rows.specs.Durations.{durationOf}

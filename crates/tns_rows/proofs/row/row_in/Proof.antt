@@ -5,7 +5,6 @@ use Prim.Native.Nat.{ℕ, suc, _≤_, zero-le}
 use native.Mathlib.Omega.{arith}
 use lib.ListN.{getD, replicate, length, List·getD-eq-default}
 use Rattle.tns_rows.specs.Bands.{bandsOf}
-use Rattle.tns_rows.specs.declared.duration.Duration.the-variants.{Ten, SevenPointFive}
 use borrow.Author.Needs.{needs}
 use Rattle.tns_rows.proofs.row.row_in.Statement.{statement}
 use Rattle.tns_rows.proofs.row.row_in.Tie as tie
