@@ -1,4 +1,4 @@
 -- The laws that belong to no one function.
 pub mod Small
 pub mod Determined
-pub mod Sides
+pub mod Written

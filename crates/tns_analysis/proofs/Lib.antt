@@ -1,3 +1,3 @@
 -- The laws that belong to no one function.
-pub mod Limits
+pub mod FrameLimits
 pub mod Determined

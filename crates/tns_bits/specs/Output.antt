@@ -23,7 +23,7 @@ pub record PutsLines (frame : ℕ) (bytes : List ℕ) (records count : ℕ) (lef
   pub lines : take count left ≡ linesText frame bytes records
 
 -- the whole records of the first bytes read are answered, and what is left of those bytes is held
-pub record Answers (frame read : ℕ) (found left : List ℕ) (result : Standing) : Type 0 where
+pub record AnswersPiece (frame read : ℕ) (found left : List ℕ) (result : Standing) : Type 0 where
   pub next-frame : result .frame ≡ frame + read / 20
   pub so-many : result .held ≡ read % 20
   pub stays : take (result .held) left ≡ take (result .held) (drop (read / 20 * 20) found)

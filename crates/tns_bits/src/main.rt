@@ -10,7 +10,7 @@ use tns_wording::put_line;
 ghost use mathlib.Core.Path.{_≡_};
 ghost use Prim.Native.Nat.{_+_, _*_, _≤_, _<_};
 ghost use lib.ListN.{length};
-ghost use Rattle.tns_bits.specs.Output.{PutsLines, Answers};
+ghost use Rattle.tns_bits.specs.Output.{PutsLines, AnswersPiece};
 
 // Where the program stands between two reads: the next frame's number, how many bytes of a record not
 // yet whole are held at the start of the piece, and whether there is more to do.
@@ -60,7 +60,7 @@ fn answer(input: &mut [u8], frame: u64, read: usize, output: &mut [u8]) -> Stand
     requires { ⌜ 16000 ≤ length (now input) ⌝ }
     requires { ⌜ 65536 ≡ length (now output) ⌝ }
     requires { ⌜ frame < 9223372036854775808 ⌝ }
-    ensures { λ r. ⌜ Answers frame read (now (input .entry)) (now (input .exit)) r ⌝ }
+    ensures { λ r. ⌜ AnswersPiece frame read (now (input .entry)) (now (input .exit)) r ⌝ }
 {
     let records = read / 20;
     let whole = records * 20;

@@ -12,7 +12,7 @@ use Rattle.tns_lists.proofs.Counted.{none-of-them, one-of-them, two-of-them}
 use Rattle.tns_refusals.specs.Refusals.{numbered, placed, Verdict, accepted, refused, bitsIn, itsBits, SoundSide}
 use Rattle.tns_refusals.proofs.Checks.{check-by, sides-by}
 use Rattle.tns_refusals.proofs.Sides.{none-over}
-use Rattle.tns_tables.proofs.Costs.{order-cost-affordable, order-cost-at-most, index-costs-at-most}
+use Rattle.tns_tables.proofs.TableCosts.{order-cost-affordable, order-cost-at-most, index-costs-at-most}
 use Rattle.tns_cost.specs.Cost.{orderCost, indexCosts, filterCost, filterBits, countedBits, costOf}
 
 pub filter-cost-at-most : (weighting order : ℕ) (indices : List ℕ) → order ≤ 8 → filterCost weighting order indices ≤ 83 * 2048

@@ -1,6 +1,6 @@
 -- The laws that belong to no one function.
-pub mod Filters
-pub mod Checks
+pub mod CountedFilters
+pub mod DecodeVerdict
 pub mod Once
 pub mod Outside
 pub mod Determined

@@ -1,6 +1,6 @@
 -- The laws that belong to no one function.
-pub mod Frames
+pub mod EncodeVerdict
 pub mod Outside
 pub mod Reported
-pub mod NearFrames
+pub mod NearFound
 pub mod Determined

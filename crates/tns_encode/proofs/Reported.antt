@@ -22,7 +22,7 @@ use Rattle.tns_side.specs.Quantized.{quantizedOf, absent}
 use Rattle.tns_analysis.specs.FrameSide.{hasSecond, filterOf, secondOf, sideOf}
 use Rattle.tns_encode.specs.Encoder.{weightingIn}
 use Rattle.tns_side.specs.Side.{ordersIn, indicesIn, bitsOf}
-use Rattle.tns_analysis.proofs.Limits.{filter-within, second-within}
+use Rattle.tns_analysis.proofs.FrameLimits.{filter-within, second-within}
 
 -- ---- numbers within a limit
 

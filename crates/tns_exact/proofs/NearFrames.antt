@@ -13,7 +13,7 @@ use Rattle.tns_lists.proofs.Every.{any-default}
 use Rattle.tns_rounding.specs.Units.{powerInUnits, AtMost}
 use Rattle.tns_rounding.proofs.Factors.{Factor}
 use Rattle.tns_index.specs.Quantizer.{coefficientOf}
-use Rattle.tns_index.proofs.Factors.{coefficient-factor}
+use Rattle.tns_index.proofs.CoefficientFactors.{coefficient-factor}
 use Rattle.tns_rows.specs.Bands.{rowOf, bandOf, inside}
 use Rattle.tns_rows.specs.declared.duration.Duration.{Duration}
 use Rattle.tns_rows.specs.declared.row.Row.{Row}

@@ -1,4 +1,4 @@
 -- The laws that belong to no one function.
 pub mod Indices
-pub mod Factors
+pub mod CoefficientFactors
 pub mod Determined

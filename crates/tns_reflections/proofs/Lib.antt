@@ -1,3 +1,3 @@
 -- The laws that belong to no one function.
-pub mod Rows
+pub mod StepDownRows
 pub mod Determined

@@ -1,4 +1,4 @@
 -- The laws that belong to no one function.
-pub mod Outside
-pub mod Costs
+pub mod PastTables
+pub mod TableCosts
 pub mod Determined

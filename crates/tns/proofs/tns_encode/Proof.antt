@@ -7,7 +7,7 @@ use Rattle.tns_encode.specs.Encoder.{encodeVerdict, bitsVerdict, encodeSays}
 use Rattle.tns.specs.Answers.{answerFor}
 use Rattle.tns.specs.declared.Answer.{Answer}
 use Rattle.tns.proofs.Small.{encode-place}
-use Rattle.tns.proofs.Sides.{refused-writes, accepted-writes}
+use Rattle.tns.proofs.Written.{refused-writes, accepted-writes}
 use Rattle.tns.proofs.tns_encode.Statement.{statement}
 use Rattle.tns.proofs.tns_encode.Tie as tie
 

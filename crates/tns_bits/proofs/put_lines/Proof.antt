@@ -10,7 +10,7 @@ use Rattle.tns_program.specs.Text.{Puts}
 use Rattle.tns_program.proofs.Texts.{puts-same, puts-on}
 use Rattle.tns_wording.specs.Wording.{lineText}
 use Rattle.tns_bits.specs.Output.{record20, linesText}
-use Rattle.tns_bits.proofs.Pieces.{no-lines, its-record, one-more, all-lines}
+use Rattle.tns_bits.proofs.LinesPut.{no-lines, its-record, one-more, all-lines}
 use Rattle.tns_bits.proofs.put_lines.Statement.{statement}
 use Rattle.tns_bits.proofs.put_lines.Tie as tie
 

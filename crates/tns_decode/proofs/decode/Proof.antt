@@ -8,7 +8,7 @@ use Rattle.tns_frames.specs.Frames.{frameOf, frameSays}
 use Rattle.tns_rows.specs.declared.row.Row.{Row}
 use Rattle.tns_frames.proofs.Frames.{sound-row}
 use Rattle.tns_decode.specs.Decoder.{rowDecoded}
-use Rattle.tns_decode.proofs.Checks.{frame-refused, frame-passed, refused-spectrum, accepted-spectrum}
+use Rattle.tns_decode.proofs.DecodeVerdict.{frame-refused, frame-passed, refused-spectrum, accepted-spectrum}
 use Rattle.tns_decode.proofs.decode.Statement.{statement}
 use Rattle.tns_decode.proofs.decode.Tie as tie
 

@@ -8,7 +8,7 @@ use lib.ListN.{length, take, drop, length-drop}
 use lib.Seq.{length-take-le}
 use Rattle.tns_refusals.proofs.Sides.{none-over}
 use Rattle.tns_rows.proofs.Bands.{Fits}
-use Rattle.tns_decode.proofs.Filters.{none-decoded, one-decoded, two-decoded}
+use Rattle.tns_decode.proofs.CountedFilters.{none-decoded, one-decoded, two-decoded}
 use Rattle.tns_decode.proofs.filters_decoded.Statement.{statement}
 use Rattle.tns_decode.proofs.filters_decoded.Tie as tie
 

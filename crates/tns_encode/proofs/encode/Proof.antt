@@ -12,8 +12,8 @@ use Rattle.tns_frames.specs.Frames.{frameOf, frameSays}
 use Rattle.tns_frames.proofs.Frames.{sound-row}
 use Rattle.tns_encode.specs.Encoder.{weightingIn, encodeSays}
 use Rattle.tns_encode.specs.declared.Encoded.{Encoded}
-use Rattle.tns_encode.proofs.Frames.{refused-frame, accepted-frame, encodes-refused, encodes-accepted}
-use Rattle.tns_encode.proofs.NearFrames.{frame-near}
+use Rattle.tns_encode.proofs.EncodeVerdict.{refused-frame, accepted-frame, encodes-refused, encodes-accepted}
+use Rattle.tns_encode.proofs.NearFound.{frame-near}
 use Rattle.tns_encode.proofs.Reported.{reported-bits-at-most}
 use Rattle.tns_encode.proofs.encode.Statement.{statement}
 use Rattle.tns_encode.proofs.encode.Tie as tie

@@ -6,7 +6,7 @@ use Rattle.tns_side.specs.declared.SideData.{SideData}
 use Rattle.tns_exact.specs.SideFilters.{filteredBy}
 use Rattle.tns_analysis.specs.declared.frame.Found.{Found}
 use Rattle.tns_side.specs.Limits.{Reported}
-use Rattle.tns_analysis.proofs.Limits.{side-reported}
+use Rattle.tns_analysis.proofs.FrameLimits.{side-reported}
 use Rattle.tns_encode.proofs.row_encoded.Statement.{statement}
 use Rattle.tns_encode.proofs.row_encoded.Tie as tie
 

@@ -7,7 +7,7 @@ use Rattle.tns_rounding.specs.Floats.{_⊖_, _⊗_, _⊘_, f0, f1}
 use Rattle.tns_lists.specs.Places.{at}
 use Rattle.tns_reflections.specs.Reflections.{belowCell, rowBelow}
 use Rattle.tns_lists.proofs.Tab.{is-tab, stored-more}
-use Rattle.tns_reflections.proofs.Rows.{belowTo, below-start, below-here, below-elsewhere}
+use Rattle.tns_reflections.proofs.StepDownRows.{belowTo, below-start, below-here, below-elsewhere}
 use Rattle.tns_reflections.proofs.row_below.Statement.{statement}
 use Rattle.tns_reflections.proofs.row_below.Tie as tie
 

@@ -2,7 +2,7 @@
 use native.Mathlib.Omega.{arith}
 use mathlib.Core.Path.{sym}
 use borrow.Author.Needs.{needs}
-use Rattle.tns_tables.proofs.Outside.{outside-rows, outside-columns}
+use Rattle.tns_tables.proofs.PastTables.{outside-rows, outside-columns}
 use Rattle.tns_tables.proofs.of_coefficient.Statement.{statement}
 use Rattle.tns_tables.proofs.of_coefficient.Tie as tie
 

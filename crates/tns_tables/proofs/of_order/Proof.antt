@@ -8,7 +8,7 @@ use native.Mathlib.Omega.{arith}
 use borrow.Author.Needs.{needs}
 use lib.ListN.{length}
 use Rattle.tns_tables.specs.Tables.{cell, wide, ofOrder}
-use Rattle.tns_tables.proofs.Outside.{outside-rows, outside-columns}
+use Rattle.tns_tables.proofs.PastTables.{outside-rows, outside-columns}
 use Rattle.tns_tables.proofs.of_order.Statement.{statement}
 use Rattle.tns_tables.proofs.of_order.Tie as tie
 

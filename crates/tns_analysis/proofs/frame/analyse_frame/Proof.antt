@@ -11,7 +11,7 @@ use Rattle.tns_side.specs.declared.SideData.{SideData}
 use Rattle.tns_rows.specs.declared.row.Row.{Row}
 use Rattle.tns_analysis.specs.FrameSide.{sideOf, foundOf}
 use Rattle.tns_analysis.specs.declared.frame.Found.{Found}
-use Rattle.tns_analysis.proofs.Limits.{side-reported}
+use Rattle.tns_analysis.proofs.FrameLimits.{side-reported}
 use Rattle.tns_analysis.proofs.frame.analyse_frame.Statement.{statement}
 use Rattle.tns_analysis.proofs.frame.analyse_frame.Tie as tie
 

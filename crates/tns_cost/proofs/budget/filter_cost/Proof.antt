@@ -6,7 +6,7 @@ use native.Mathlib.Omega.{arith}
 use borrow.Author.Needs.{needs}
 use lib.ListN.{take, length-take}
 use Rattle.tns_tables.specs.Tables.{ofOrder, orderBits, coefBits, cellsFrom}
-use Rattle.tns_tables.proofs.Costs.{index-costs-at-most}
+use Rattle.tns_tables.proofs.TableCosts.{index-costs-at-most}
 use Rattle.tns_cost.specs.Cost.{orderCost, indexCosts, filterCost}
 use Rattle.tns_cost.proofs.budget.filter_cost.Statement.{statement}
 use Rattle.tns_cost.proofs.budget.filter_cost.Tie as tie

@@ -7,7 +7,7 @@ use Rattle.tns_rounding.specs.Floats.{_⊕_, _⊗_, f0}
 use Rattle.tns_lists.specs.Places.{at}
 use Rattle.tns_recursion.specs.Recursion.{rowCell, nextRow}
 use Rattle.tns_lists.proofs.Tab.{is-tab, stored-more}
-use Rattle.tns_recursion.proofs.Rows.{rowTo, row-start, row-here, row-elsewhere}
+use Rattle.tns_recursion.proofs.RecursionRows.{rowTo, row-start, row-here, row-elsewhere}
 use Rattle.tns_recursion.proofs.recursion.next_row.Statement.{statement}
 use Rattle.tns_recursion.proofs.recursion.next_row.Tie as tie
 

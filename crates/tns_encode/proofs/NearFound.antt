@@ -16,7 +16,7 @@ use Rattle.tns_exact.specs.Exact.{NearExact}
 use Rattle.tns_exact.proofs.NearFrames.{OfTable, quantized-of-table, absent-of-table, filters-near}
 use Rattle.tns_analysis.specs.FrameSide.{hasSecond, filterOf, secondOf, sideOf}
 use Rattle.tns_exact.specs.SideFilters.{filteredBy}
-use Rattle.tns_analysis.proofs.Limits.{filter-within}
+use Rattle.tns_analysis.proofs.FrameLimits.{filter-within}
 
 filter-of-table : (b : Band) (lines : List Float) (flag : Bool) (weighting : ℕ) → OfTable (filterOf b lines flag weighting)
 unfolding filterOf
