@@ -1,44 +1,28 @@
 -- Laws of the decoder's checks: what a refusal of the frame or of the side data makes of the call, and what is known once neither is refused.
-use mathlib.Core.Path.{_≡_, sym, _∙_}
+use mathlib.Core.Path.{_≡_, sym}
 use mathlib.Core.List.{List}
 use Prim.Native.Nat.{ℕ}
 use lib.Ieee.{Float}
 use lib.ListN.{length}
-use Rattle.tns_refusals.specs.Refusals.{Fault, Verdict, accepted, refused, noFault, sideChecks}
-use Rattle.tns_refusals.proofs.Sides.{settle, refused-by-checks, passed-by-checks}
+use Rattle.tns_refusals.specs.Refusals.{Fault, accepted, refused, noFault, sideChecks}
 use Rattle.tns_rows.specs.Durations.{durationOf}
 use Rattle.tns_rows.specs.Bands.{rowOf}
-use Rattle.tns_frames.specs.Frames.{frameChecks, frameOf}
+use Rattle.tns_frames.specs.Frames.{frameOf}
 use Rattle.tns_rows.specs.declared.row.Row.{Row}
-use Rattle.tns_frames.proofs.Frames.{frames-settle}
+use Rattle.tns_frames.proofs.Frames.{refused-frame, passed-frame}
 use Rattle.tns_decode.specs.Decoder.{decodeChecks, spectrumDecoded, rowDecoded}
 
 module _ (duration bandwidth filters : ℕ) (orders indices : List ℕ) where
   module _ (lines : ℕ) where
-    frame : Verdict (Unit {0})
-    frame = frameChecks duration bandwidth lines noFault
-
-    own : Row
-    own = rowOf (durationOf duration) bandwidth
-
-    frame-is : frameOf duration bandwidth lines ≡ settle frame (accepted own)
-    unfolding frameOf frame own
-    frame-is = frames-settle duration bandwidth lines (accepted (rowOf (durationOf duration) bandwidth))
-
-    checks-are : decodeChecks duration bandwidth filters orders indices lines ≡ settle frame (sideChecks filters orders indices noFault)
-    unfolding decodeChecks frame
-    checks-are = frames-settle duration bandwidth lines (sideChecks filters orders indices noFault)
-
     pub frame-refused : (why : Fault) → refused why ≡ frameOf duration bandwidth lines → refused why ≡ decodeChecks duration bandwidth filters orders indices lines
-    frame-refused why e = sym (checks-are ∙ refused-by-checks frame own why (e ∙ frame-is) (sideChecks filters orders indices noFault))
+    unfolding decodeChecks
+    frame-refused why e = sym (refused-frame duration bandwidth lines (sideChecks filters orders indices noFault) why e)
 
     -- past the frame's checks the row is the frame's, and the side data decide
     pub frame-passed : (row : Row) → accepted row ≡ frameOf duration bandwidth lines
         → (row ≡ rowOf (durationOf duration) bandwidth) × (decodeChecks duration bandwidth filters orders indices lines ≡ sideChecks filters orders indices noFault)
-    unfolding own
-    frame-passed row e =
-        let p = passed-by-checks frame own row (e ∙ frame-is) in
-        (p .0, checks-are ∙ p .1 (sideChecks filters orders indices noFault))
+    unfolding decodeChecks
+    frame-passed row e = passed-frame duration bandwidth lines (sideChecks filters orders indices noFault) row e
 
   -- what a refused and an accepted call leave
   module _ (lines : List Float) where

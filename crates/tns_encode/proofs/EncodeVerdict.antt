@@ -7,13 +7,12 @@ use Prim.Native.Nat.{ℕ, _≤_}
 use native.Mathlib.Omega.{arith}
 use lib.Ieee.{Float}
 use lib.ListN.{length}
-use Rattle.tns_refusals.specs.Refusals.{Fault, Verdict, accepted, refused, bitsIn, itsBits, noFault}
-use Rattle.tns_refusals.proofs.Sides.{settle, refused-by-checks, passed-by-checks}
+use Rattle.tns_refusals.specs.Refusals.{Fault, Verdict, accepted, refused, bitsIn, itsBits}
 use Rattle.tns_rows.specs.Durations.{durationOf}
 use Rattle.tns_rows.specs.Bands.{rowOf}
 use Rattle.tns_rows.specs.declared.row.Row.{Row}
-use Rattle.tns_frames.specs.Frames.{frameChecks, frameOf}
-use Rattle.tns_frames.proofs.Frames.{frames-settle}
+use Rattle.tns_frames.specs.Frames.{frameOf}
+use Rattle.tns_frames.proofs.Frames.{refused-frame, passed-frame}
 use Rattle.tns_side.specs.Side.{bitsOf, noSide}
 use Rattle.tns_side.specs.declared.SideData.{SideData}
 use Rattle.tns_exact.specs.SideFilters.{filteredBy}
@@ -23,33 +22,18 @@ use Rattle.tns_encode.specs.Encoder.{weightingIn, encodeVerdict, encodeS
 use Rattle.tns_encode.specs.declared.Encoded.{Encoded}
 
 module _ (duration bandwidth nbits : ℕ) (flag : Bool) (lines : List Float) where
-  own : Row
-  own = rowOf (durationOf duration) bandwidth
-
-  side : SideData
+  abbrev side : SideData
   side = sideOf (rowOf (durationOf duration) bandwidth) lines flag (weightingIn duration nbits)
 
-  checks : Verdict (Unit {0})
-  checks = frameChecks duration bandwidth (length lines) noFault
+  pub frame-refused : (why : Fault) → refused why ≡ frameOf duration bandwidth (length lines) → encodeVerdict duration bandwidth nbits flag lines ≡ refused why
+  unfolding encodeVerdict
+  frame-refused why e = refused-frame duration bandwidth (length lines) (accepted side) why e
 
-  frame-is : frameOf duration bandwidth (length lines) ≡ settle checks (accepted own)
-  unfolding frameOf checks own
-  frame-is = frames-settle duration bandwidth (length lines) (accepted (rowOf (durationOf duration) bandwidth))
-
-  verdict-is : encodeVerdict duration bandwidth nbits flag lines ≡ settle checks (accepted side)
-  unfolding encodeVerdict checks side
-  verdict-is = frames-settle duration bandwidth (length lines) (accepted (sideOf (rowOf (durationOf duration) bandwidth) lines flag (weightingIn duration nbits)))
-
-  pub refused-frame : (why : Fault) → refused why ≡ frameOf duration bandwidth (length lines) → encodeVerdict duration bandwidth nbits flag lines ≡ refused why
-  refused-frame why e = verdict-is ∙ refused-by-checks checks own why (e ∙ frame-is) (accepted side)
-
-  pub accepted-frame : (row : Row) → accepted row ≡ frameOf duration bandwidth (length lines)
+  pub frame-passed : (row : Row) → accepted row ≡ frameOf duration bandwidth (length lines)
       → (row ≡ rowOf (durationOf duration) bandwidth)
       × (encodeVerdict duration bandwidth nbits flag lines ≡ accepted (sideOf (rowOf (durationOf duration) bandwidth) lines flag (weightingIn duration nbits)))
-  unfolding own side
-  accepted-frame row e =
-      let p = passed-by-checks checks own row (e ∙ frame-is) in
-      (p .0, verdict-is ∙ p .1 (accepted side))
+  unfolding encodeVerdict
+  frame-passed row e = passed-frame duration bandwidth (length lines) (accepted side) row e
 
 -- the bits that an answer says
 few : (said verdict : Verdict ℕ) → said ≡ verdict → bitsIn itsBits verdict ≤ 168 → bitsIn itsBits said ≤ 168

@@ -5,9 +5,9 @@ use Prim.Native.Nat.{ℕ, zero, suc, _≤_}
 use native.Mathlib.Omega.{arith}
 use lib.Dec.{ltb}
 use borrow.Author.Tests.{ltb-false}
-use Rattle.tns_refusals.specs.Refusals.{numbered, Verdict, accepted, refused, unlessRefused, noFault, check}
+use Rattle.tns_refusals.specs.Refusals.{Fault, numbered, Verdict, accepted, refused, unlessRefused, noFault, check}
 use Rattle.tns_refusals.proofs.Checks.{check-by}
-use Rattle.tns_refusals.proofs.Sides.{settle, not-accepted}
+use Rattle.tns_refusals.proofs.Sides.{settle, not-accepted, refused-by-checks, passed-by-checks}
 use Rattle.tns_rows.specs.Durations.{durationOf, numbersOf}
 use Rattle.tns_rows.specs.Bands.{rowOf, bandOf, noBand, lastStop}
 use Rattle.tns_rows.specs.declared.row.Row.{Row}
@@ -35,6 +35,30 @@ frames-by P duration bandwidth lines next stops1 stops2 stops3 goes =
     check-by P 1 (ltb 1 duration) _ stops1 (λ e.
     check-by P 2 (ltb 4 bandwidth) _ stops2 (λ e.
     check-by P 3 (ltb lines (lastStop (rowOf (durationOf duration) bandwidth)) || ltb (numbersOf (durationOf duration) .longest) lines) next stops3 (λ e. goes)))
+
+-- what a frame that they refuse, and one that they pass, make of a call that goes on from them
+module _ {A : Type 0} (duration bandwidth lines : ℕ) (next : Verdict A) where
+  checks : Verdict (Unit {0})
+  checks = frameChecks duration bandwidth lines noFault
+
+  own : Row
+  own = rowOf (durationOf duration) bandwidth
+
+  frame-is : frameOf duration bandwidth lines ≡ settle checks (accepted own)
+  unfolding frameOf checks own
+  frame-is = frames-settle duration bandwidth lines (accepted (rowOf (durationOf duration) bandwidth))
+
+  call-is : frameChecks duration bandwidth lines next ≡ settle checks next
+  unfolding checks
+  call-is = frames-settle duration bandwidth lines next
+
+  pub refused-frame : (why : Fault) → refused why ≡ frameOf duration bandwidth lines → frameChecks duration bandwidth lines next ≡ refused why
+  refused-frame why e = call-is ∙ refused-by-checks checks own why (e ∙ frame-is) next
+
+  pub passed-frame : (row : Row) → accepted row ≡ frameOf duration bandwidth lines
+      → (row ≡ rowOf (durationOf duration) bandwidth) × (frameChecks duration bandwidth lines next ≡ next)
+  unfolding own
+  passed-frame row e = let p = passed-by-checks checks own row (e ∙ frame-is) in (p .0, call-is ∙ p .1 next)
 
 -- two results that are the same where the lines are enough for the row are the same after these checks
 pub same-result : {A : Type 0} (duration bandwidth lines : ℕ) (a b : A) → (lastStop (rowOf (durationOf duration) bandwidth) ≤ lines → a ≡ b)

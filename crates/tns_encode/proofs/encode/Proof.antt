@@ -12,7 +12,7 @@ use Rattle.tns_frames.specs.Frames.{frameOf, frameSays}
 use Rattle.tns_frames.proofs.Frames.{sound-row}
 use Rattle.tns_encode.specs.Encoder.{weightingIn, encodeSays}
 use Rattle.tns_encode.specs.declared.Encoded.{Encoded}
-use Rattle.tns_encode.proofs.EncodeVerdict.{refused-frame, accepted-frame, encodes-refused, encodes-accepted}
+use Rattle.tns_encode.proofs.EncodeVerdict.{frame-refused, frame-passed, encodes-refused, encodes-accepted}
 use Rattle.tns_encode.proofs.NearFound.{frame-near}
 use Rattle.tns_encode.proofs.Reported.{reported-bits-at-most}
 use Rattle.tns_encode.proofs.encode.Statement.{statement}
@@ -35,7 +35,7 @@ returns c =
     let frame = c .before .before in
     let g = frame .before .before .before .before .args in
     let why = says (frame .frame .given .0 .0) in
-    let v = refused-frame (g .duration) (g .bandwidth) (g .nbits) (g .flag) (g .lines .now) why (sym (ap frameSays (frame .frame .given .1)) ∙ frame .before .before .check-frame .ensures)
+    let v = frame-refused (g .duration) (g .bandwidth) (g .nbits) (g .flag) (g .lines .now) why (sym (ap frameSays (frame .frame .given .1)) ∙ frame .before .before .check-frame .ensures)
     in
     rw v (encodes-refused why _ (g .lines .now) (c .refused .result) (ap (λ (r : Encoded). encodeSays (r .answer)) (c .refused .ensures)) (ap (λ (r : Encoded). r .side) (c .refused .ensures)))
 
@@ -50,7 +50,7 @@ returns-2 c =
     let own = rowOf (durationOf (g .duration)) (g .bandwidth) in
     let weighting = weightingIn (g .duration) (g .nbits) in
     let row = frame .frame2 .given .0 .0 in
-    let call = accepted-frame (g .duration) (g .bandwidth) (g .nbits) (g .flag) xs row (passed frame) in
+    let call = frame-passed (g .duration) (g .bandwidth) (g .nbits) (g .flag) xs row (passed frame) in
     let w : weighed .lpc-weighting .result ≡ weighting =
     weighed .lpc-weighting .ensures ∙ ap (λ (d : Duration). weightingOf (numbersOf d) (g .nbits)) (durated .duration-of .ensures)
     in
