@@ -17,10 +17,10 @@ use Rattle.tns_decode.specs.Decoder.{decoderFilter, rowDecoded}
 
 module _ (row : Row) (orders indices : List ℕ) (lines : List Float) where
   -- the first filter, and the second
-  abbrev first : Filter
+  abbrev pub first : Filter
   first = decoderFilter (getD orders 0 0) (take 8 indices)
 
-  abbrev second : Filter
+  abbrev pub second : Filter
   second = decoderFilter (getD orders 1 0) (take 8 (drop 8 indices))
 
   pub none-decoded : lines ≡ rowDecoded row 0 orders indices lines

@@ -1,29 +1,28 @@
 -- Document 01, "Lattices": a count of 2 on a one-band row acts once. It leaves what a count of 1 does, whatever the second filter's order and
 -- indices.
-use mathlib.Core.Path.{_≡_, refl}
+use mathlib.Core.Path.{_≡_, refl, sym, _∙_}
 use mathlib.Core.List.{List}
 use Prim.Native.Nat.{ℕ}
 use lib.Ieee.{Float}
 use lib.ListN.{length}
-use Rattle.tns_lists.specs.Counted.{counted}
-use Rattle.tns_lists.specs.Lines.{linesThrough}
 use Rattle.tns_refusals.specs.Refusals.{sideChecks}
 use Rattle.tns_rows.specs.Durations.{durationOf}
-use Rattle.tns_rows.specs.Bands.{rowOf, noBand, within}
+use Rattle.tns_rows.specs.Bands.{rowOf, noBand}
 use Rattle.tns_rows.specs.declared.row.Row.{Row}
-use Rattle.tns_lattices.specs.Lattice.{Lattice, linesBy}
-use Rattle.tns_filters.specs.Filters.{bandsFiltered, rowFiltered}
+use Rattle.tns_lattices.specs.Lattice.{atRest}
+use Rattle.tns_lattices.specs.DecoderLattice.{lineDecoded}
+use Rattle.tns_filters.proofs.Filters.{acting, without-band}
 use Rattle.tns_decode.specs.Decoder.{rowDecoded, decodeChecks, spectrumDecoded}
-
--- no line, and so no change
-nowhere : (lattice : Lattice) (q : List Float) (order : ℕ) (states lines : List Float) → within noBand (linesBy lattice q order states) lines ≡ lines
-unfolding linesBy linesThrough
-nowhere lattice q order states lines = refl
+use Rattle.tns_decode.proofs.CountedFilters.{first, second, one-decoded, two-decoded}
 
 twice-is-once : (row : Row) (orders indices : List ℕ) (lines : List Float) → row .second ≡ noBand
     → rowDecoded row 2 orders indices lines ≡ rowDecoded row 1 orders indices lines
-unfolding rowDecoded counted rowFiltered bandsFiltered
-twice-is-once row orders indices lines none = rw none (nowhere _ _ _ _ _)
+twice-is-once row orders indices lines none =
+    let f = first row orders indices lines in
+    let g = second row orders indices lines in
+    let once = acting lineDecoded (row .first) f atRest lines in
+    let again = without-band lineDecoded (row .second) none g _ _ in
+    sym (two-decoded row orders indices lines _ _ _ _ once again) ∙ one-decoded row orders indices lines _ _ once
 
 -- the two calls pass the same checks
 same-checks : (duration bandwidth : ℕ) (orders indices : List ℕ) (lines : ℕ)

@@ -7,8 +7,9 @@ use Prim.Native.Nat.{ℕ, zero, suc, _-_, _≤_, _<_, min}
 use native.Mathlib.Omega.{arith}
 use lib.Ieee.{Float, nan}
 use lib.ListN.{length, getD, take, drop}
+use Rattle.tns_lists.specs.Lines.{linesThrough}
 use Rattle.tns_lists.proofs.Orders.{within-8}
-use Rattle.tns_rows.specs.Bands.{bandOf, inside, within}
+use Rattle.tns_rows.specs.Bands.{bandOf, noBand, inside, within}
 use Rattle.tns_rows.specs.declared.row.Band.{Band}
 use Rattle.tns_rows.specs.declared.row.Row.{Row}
 use Rattle.tns_rows.proofs.Bands.{Fits, SoundRow, band-kept, band-back}
@@ -51,6 +52,16 @@ module _ (lattice : Lattice) where
         → FilteredIn lattice (row .second) g after left end result → result ≡ rowFiltered lattice row (f ∷ g ∷ []) xs
     unfolding rowFiltered bandsFiltered
     two-filtered f g after left end result a b = rw (b .lines, a .lines, a .states)
+
+  -- what a filter leaves of any spectrum, by its definition
+  pub acting : (band : Band) (f : Filter) (states lines : List Float)
+      → FilteredIn lattice band f states lines (leaves f states (inside band lines)) (within band (change f states) lines)
+  acting band f states lines = record { states = refl; lines = refl }
+
+  -- a filter without a band has no line to act on
+  pub without-band : (band : Band) → band ≡ noBand → (f : Filter) (states lines : List Float) → FilteredIn lattice band f states lines (leaves f states []) lines
+  unfolding linesBy linesThrough
+  without-band band none f states lines = rw none (record { states = refl; lines = refl })
 
   -- a filter of order 0 leaves the spectrum and the states as they are
   pub idle-filter : Idle lattice → (band : Band) (f : Filter) → f .order ≡ 0 → (states lines : List Float) → band .start ≤ band .stop
