@@ -1,7 +1,7 @@
--- The laws of a loop that takes the lines of a band through a lattice, whichever it is, and of an order that the code names by a literal.
+-- The laws of a loop that takes the lines of a band through a lattice, whichever it is.
 use mathlib.Core.Path.{_≡_, refl, sym, _∙_, ap}
 use mathlib.Core.List.{List, _++_}
-use Prim.Native.Nat.{ℕ, _+_, _<_, _≤_, min}
+use Prim.Native.Nat.{ℕ, _+_, _<_, _≤_}
 use native.Mathlib.Omega.{arith}
 use lib.Ieee.{Float, nan}
 use lib.ListN.{length, take, drop, getD, set, length-set}
@@ -53,12 +53,3 @@ module _ (lattice : Lattice) (q : List Float) (order : ℕ) where
   pub by-length : (states lines : List Float) → length (linesBy lattice q order states lines) ≡ length lines
   unfolding linesBy
   by-length states lines = through-length becomes after nan states lines
-
--- an order that a literal names
-pub named : (order known : ℕ) → order ≡ known → min order 8 ≡ min known 8
-named order known e = ap (λ (o : ℕ). min o 8) e
-
--- a call with the stages that the order has
-pub arm : (lattice : Lattice) (order known : ℕ) → min order 8 ≡ known → (q start found after left : List Float)
-    → Filtered lattice q known start found after left → Filtered lattice q (min order 8) start found after left
-arm lattice order known e q start found after left f = rw e f

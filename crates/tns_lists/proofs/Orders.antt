@@ -3,7 +3,8 @@ use mathlib.Core.Path.{_≡_}
 use Prim.Native.Nat.{ℕ, suc, _≤_, zero-le, min}
 use native.Mathlib.Omega.{arith}
 
-above : (n order : ℕ) → n ≤ order → (order ≡ n → ⊥) → suc n ≤ order
+-- a number that is n or more and not n is more
+pub above : (n order : ℕ) → n ≤ order → (order ≡ n → ⊥) → suc n ≤ order
 above n order h k = omega arith
 
 capped : (order : ℕ) → 8 ≤ order → min order 8 ≡ 8
