@@ -38,5 +38,5 @@ sideOf row lines flag weighting =
     }
 
 -- what the analysis of a frame gives: its side data, and their bits
-abbrev pub foundOf : Row → List Float → Bool → ℕ → Found
-foundOf row lines flag weighting = let side = sideOf row lines flag weighting in record { side = side; bits = bitsOf side }
+abbrev pub frameFound : Row → List Float → Bool → ℕ → Found
+frameFound row lines flag weighting = let side = sideOf row lines flag weighting in record { side = side; bits = bitsOf side }

@@ -11,7 +11,7 @@ use tns_side::quantize_all;
 ghost use mathlib.Core.Path.{_≡_};
 ghost use Rattle.tns_side.specs.Side.{bitsOf};
 ghost use Rattle.tns_side.specs.Limits.{Reported};
-ghost use Rattle.tns_analysis.specs.FrameSide.{countOf, filterOf, secondOf, sideOf, foundOf};
+ghost use Rattle.tns_analysis.specs.FrameSide.{countOf, filterOf, secondOf, sideOf, frameFound};
 
 // What the analysis finds in a frame: its side data, and their bits.
 pub struct Found {
@@ -80,7 +80,7 @@ fn side_bits(side: SideData) -> u16
 
 // The side data of a frame, and their bits. `flag` is the near-Nyquist flag.
 pub fn analyse_frame(lines: &[f32], row: Row, flag: bool, weighting: u8) -> Found
-    ensures { λ r. ⌜ r ≡ foundOf row (now (lines .entry)) flag weighting ⌝ }
+    ensures { λ r. ⌜ r ≡ frameFound row (now (lines .entry)) flag weighting ⌝ }
 {
     let side = side_of(lines, row, flag, weighting);
     let bits = side_bits(side);

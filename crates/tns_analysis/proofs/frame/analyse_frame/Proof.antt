@@ -9,14 +9,14 @@ use Rattle.tns_side.specs.Side.{bitsOf}
 use Rattle.tns_side.specs.Limits.{Reported}
 use Rattle.tns_side.specs.declared.SideData.{SideData}
 use Rattle.tns_rows.specs.declared.row.Row.{Row}
-use Rattle.tns_analysis.specs.FrameSide.{sideOf, foundOf}
+use Rattle.tns_analysis.specs.FrameSide.{sideOf, frameFound}
 use Rattle.tns_analysis.specs.declared.frame.Found.{Found}
 use Rattle.tns_analysis.proofs.FrameLimits.{side-reported}
 use Rattle.tns_analysis.proofs.frame.analyse_frame.Statement.{statement}
 use Rattle.tns_analysis.proofs.frame.analyse_frame.Tie as tie
 
 both : (row : Row) (lines : List Float) (flag : Bool) (weighting : ℕ) (side : SideData) (bits : ℕ) → side ≡ sideOf row lines flag weighting → bits ≡ bitsOf side
-    → _≡_ {A = Found} (record { bits = bits; side = side }) (foundOf row lines flag weighting)
+    → _≡_ {A = Found} (record { bits = bits; side = side }) (frameFound row lines flag weighting)
 both row lines flag weighting side bits e f = rw (f, e)
 
 side-bits-requires : tie.Need-side-bits-requires
