@@ -367,9 +367,9 @@ def decode_call(tables, call, across):
     if answer is not None:
         answer.lines = left_alone(call)
         return answer, []
-    # Index 0 stands for coefficient 0, and filters without a band do not act.
+    # Filters without a band do not act.
     filters = [
-        ([coefficient_of(i) if i else 0.0 for i in used(call.orders, call.indices, f)], band)
+        ([coefficient_of(i) for i in used(call.orders, call.indices, f)], band)
         for f, band in enumerate(ROWS[call.duration][call.bandwidth][: call.filters])
     ]
     lines = filtered(decode_line, filters, map(float_of, call.lines))

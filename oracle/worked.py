@@ -173,6 +173,36 @@ def decode_cases():
             yield f"{a} before {b}", meeting(a, b)
 
 
+# Index 0 decoded, alone
+
+
+def zeros_at(filter, order, places, filters=2, bandwidth=3):
+    """7.5 ms. A filter of some order whose indices are 0 at some places; every
+    other index is 8, whose coefficient is 0, and the other filter has order 0."""
+    orders = [0, 0]
+    orders[filter] = order
+    indices = [8] * 16
+    for place in places:
+        indices[8 * filter + place] = 0
+    stop = model.ROWS[1][bandwidth][-1][-1]
+    return decode(1, bandwidth, filters, tuple(orders), tuple(indices), stop)
+
+
+def index_0_cases():
+    for filter, named, bandwidth in [(0, "first", 0), (1, "second", 3)]:
+        for order in range(9):
+            said = f"{named} filter of order {order}, index 0"
+            for place in range(order):
+                yield f"{said} at place {place}", zeros_at(filter, order, [place], 2, bandwidth)
+            if order < 8:
+                unused = range(order, 8)
+                yield f"{said} from place {order} on", zeros_at(filter, order, unused, 2, bandwidth)
+    every = range(8)
+    yield "index 0 of a first filter that is not counted", zeros_at(0, 8, every, 0)
+    yield "index 0 of a second filter that is not counted", zeros_at(1, 8, every, 1)
+    yield "index 0 of a filter without a band", zeros_at(1, 8, every, 2, 0)
+
+
 # Encode cases
 
 
@@ -261,7 +291,7 @@ def check_marked(tables):
 def cases():
     for name, call, _ in marked_cases():
         yield name, call
-    for some in [index_cases, cost_cases, decode_cases, encode_cases]:
+    for some in [index_cases, cost_cases, decode_cases, index_0_cases, encode_cases]:
         yield from some()
 
 

@@ -1,11 +1,10 @@
 -- The decode call: its answer, and the spectrum after it.
 use mathlib.Core.Path.{_≡_}
 use mathlib.Core.List.{List, map}
-use Prim.Native.Nat.{ℕ, zero, suc}
+use Prim.Native.Nat.{ℕ}
 use lib.ListN.{length}
 use lib.Ieee.{Float}
 use Rattle.tns_lists.specs.Counted.{counted}
-use Rattle.tns_rounding.specs.Floats.{f0}
 use Rattle.tns_refusals.specs.Refusals.{Verdict, refused, unlessRefused, noFault, says, sideChecks}
 use Rattle.tns_index.specs.Quantizer.{coefficientOf}
 use Rattle.tns_rows.specs.Durations.{durationOf}
@@ -17,14 +16,9 @@ use Rattle.tns_filters.specs.Filters.{Filter, filterWith, rowFiltered}
 use Rattle.tns_decode.specs.declared.DecodeAnswer.{DecodeAnswer}
 use Rattle.tns_decode.specs.declared.DecodeAnswer.the-variants.{Decoded, Refused}
 
--- the coefficient that the decoder takes an index for: as in D, index 0 gives coefficient 0
-unfoldable pub decoderCoefficient : ℕ → Float
-decoderCoefficient zero = f0
-decoderCoefficient (suc i) = coefficientOf (suc i)
-
--- a filter of the decoder, by its order and eight indices
+-- a filter of the decoder, by its order and eight indices: they stand for the coefficients that they stand for in the encoder, index 0 too
 abbrev pub decoderFilter : ℕ → List ℕ → Filter
-decoderFilter order indices = filterWith (map decoderCoefficient indices) order
+decoderFilter order indices = filterWith (map coefficientOf indices) order
 
 -- the counted filters act on the row's bands in turn
 unfoldable pub rowDecoded : Row → ℕ → List ℕ → List ℕ → List Float → List Float

@@ -15,10 +15,11 @@ ghost use mathlib.Core.List.{map};
 ghost use Prim.Native.Nat.{_≤_};
 ghost use lib.ListN.{length};
 ghost use Rattle.tns_refusals.specs.Refusals.{SoundSide};
+ghost use Rattle.tns_index.specs.Quantizer.{coefficientOf};
 ghost use Rattle.tns_rows.proofs.Bands.{Fits, SoundRow};
 ghost use Rattle.tns_lattices.specs.DecoderLattice.{lineDecoded};
 ghost use Rattle.tns_filters.specs.Filters.{FilteredIn};
-ghost use Rattle.tns_decode.specs.Decoder.{decoderCoefficient, decoderFilter, rowDecoded, Decodes};
+ghost use Rattle.tns_decode.specs.Decoder.{decoderFilter, rowDecoded, Decodes};
 
 // The answer of `decode`.
 pub enum DecodeAnswer {
@@ -112,21 +113,11 @@ fn filter_decoded(
 // The eight coefficients of a filter.
 fn coefficients(indices: &[u8]) -> [f32; 8]
     requires { ⌜ length (now indices) ≡ 8 ⌝ }
-    ensures { λ r. ⌜ r ≡ map decoderCoefficient (now (indices .entry)) ⌝ }
+    ensures { λ r. ⌜ r ≡ map coefficientOf (now (indices .entry)) ⌝ }
 {
     let mut q = [0.0; 8];
     for k in 0..8usize {
-        q[k] = decoder_coefficient(indices[k]);
+        q[k] = coefficient_of(indices[k]);
     }
     q
-}
-
-// The coefficient that an index stands for. As in D, index 0 stands for 0.
-fn decoder_coefficient(index: u8) -> f32
-    ensures { λ r. ⌜ r ≡ decoderCoefficient index ⌝ }
-{
-    if index == 0 {
-        return 0.0;
-    }
-    coefficient_of(index)
 }

@@ -18,11 +18,11 @@ use Rattle.tns_analysis.specs.FrameSide.{hasSecond, filterOf, secondOf, sideOf}
 use Rattle.tns_exact.specs.SideFilters.{filteredBy}
 use Rattle.tns_analysis.proofs.FrameLimits.{filter-within}
 
-filter-of-table : (b : Band) (lines : List Float) (flag : Bool) (weighting : ℕ) → OfTable (filterOf b lines flag weighting)
+pub filter-of-table : (b : Band) (lines : List Float) (flag : Bool) (weighting : ℕ) → OfTable (filterOf b lines flag weighting)
 unfolding filterOf
 filter-of-table b lines flag weighting = quantized-of-table _ (filter-within b lines flag weighting)
 
-second-of-table : (row : Row) (lines : List Float) (flag : Bool) (weighting : ℕ) → OfTable (secondOf row lines flag weighting)
+pub second-of-table : (row : Row) (lines : List Float) (flag : Bool) (weighting : ℕ) → OfTable (secondOf row lines flag weighting)
 unfolding secondOf
 second-of-table row lines flag weighting = either (hasSecond row)
   where

@@ -18,6 +18,18 @@ impl Decode {
     pub fn acts(&self, filter: usize) -> bool {
         filter < self.side.filters && filter < self.row.bands.len() && self.side.orders[filter] > 0
     }
+
+    /// The places whose indices are used: those below the order of a filter that
+    /// acts.
+    pub fn used(&self) -> impl Iterator<Item = usize> + '_ {
+        let of = |filter| 8 * filter..8 * filter + self.side.orders[filter];
+        (0..2).filter(|f| self.acts(*f)).flat_map(of)
+    }
+
+    /// Whether a used place holds index 0.
+    pub fn uses_0(&self) -> bool {
+        self.used().any(|place| self.side.indices[place] == 0)
+    }
 }
 
 /// A call of the encoder.

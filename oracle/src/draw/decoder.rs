@@ -39,3 +39,12 @@ pub fn any(random: &mut Random, row: &'static Row) -> Decode {
     let kind = random.below(KINDS.len());
     of_kind(random, row, side, kind, length)
 }
+
+/// The same, with index 0 at one more place of every fourth call.
+pub fn any_with_0(random: &mut Random, row: &'static Row) -> Decode {
+    let mut call = any(random, row);
+    if random.once_in(4) {
+        call.side.indices[random.below(16)] = 0;
+    }
+    call
+}

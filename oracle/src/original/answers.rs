@@ -1,9 +1,15 @@
 //! D's and E's answers to a call, and what document 01 says instead where it
-//! differs from E.
+//! differs from them.
 
 use crate::document::{rules, Decode, Encode, Encoded, Outcome, Side};
 use crate::original::build::Build;
 use crate::original::caught::caught;
+
+/// D takes index 0 for no coefficient, and any other number for the sine of that
+/// many steps less 8. The sine of 59 steps is that of -8 steps, and so is its f32:
+/// with 67 D's own text filters with the coefficient that index 0 stands for. The
+/// word `decode` says whether it does in both builds.
+pub const D_INDEX_0: usize = 67;
 
 /// How an outcome was had.
 #[derive(Clone, Copy, PartialEq)]
@@ -19,8 +25,23 @@ pub enum How {
 impl Build {
     /// D's lines.
     pub fn decoded(&self, call: &Decode) -> Vec<f32> {
+        self.decoded_by(call, &call.side.indices)
+    }
+
+    /// The lines that the port must leave, by D's text: index 0 at a used place
+    /// is handed to D as the number that it takes for that coefficient. A call
+    /// without such a place reaches D as it is.
+    pub fn wanted_lines(&self, call: &Decode) -> Vec<f32> {
+        let mut indices = call.side.indices;
+        for place in call.used().filter(|n| call.side.indices[*n] == 0) {
+            indices[place] = D_INDEX_0;
+        }
+        self.decoded_by(call, &indices)
+    }
+
+    fn decoded_by(&self, call: &Decode, indices: &[usize; 16]) -> Vec<f32> {
         let (row, side) = (call.row, &call.side);
-        let (orders, indices) = (&side.orders, &side.indices);
+        let orders = &side.orders;
         let mut lines = call.lines.clone();
         (self.decode)(
             row.duration,

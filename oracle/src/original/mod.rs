@@ -5,6 +5,6 @@ mod answers;
 mod build;
 mod caught;
 
-pub use answers::How;
+pub use answers::{How, D_INDEX_0};
 pub use build::{both, Build};
 pub use caught::caught;

@@ -1,10 +1,13 @@
-//! The word `lc3`: the port against liblc3, an independent LC3 codec in C, on
-//! ordinary spectra. It arranges its float operations in its own way, so what
-//! differs is counted and nothing is demanded.
+//! The word `lc3`: the port against liblc3, an independent LC3 codec in C. Its
+//! analysis arranges float operations in its own way, so what differs there is
+//! counted and nothing is demanded; it is asked for ordinary spectra. Its
+//! decoder does the same operations on finite numbers, and must leave the same
+//! lines.
 
-use crate::document::{Encode, Row, ROWS};
+use crate::compare::Differing;
+use crate::document::{Decode, Encode, Row, Side, ROWS};
 use crate::draw::encoder::{draw, ACTIVE, GAIN_DAMPED, GAIN_ON, THRESHOLD};
-use crate::draw::{any_side, Random, SEED};
+use crate::draw::{any_side, decoder, spectra::KINDS, Random, SEED};
 use crate::liblc3::{analyze, nbits, synthesize, Data};
 use crate::original::{both, Build};
 use crate::port::{decode, Lent, Loan};
@@ -13,6 +16,8 @@ const FRAMES: usize = 200_000;
 /// Draws steered to a limit of the analysis; each gives several frames.
 const STEERED: usize = 3_000;
 const COSTS: usize = 1_000_000;
+/// Decoder calls on all kinds of spectra.
+const DECODED: usize = 1_600_000;
 
 /// The largest difference of two lists of lines, by the largest line.
 fn apart(a: &[f32], b: &[f32]) -> f64 {
@@ -92,11 +97,7 @@ impl Tally {
     }
 
     fn decoder(&mut self, random: &mut Random, row: &Row, lines: &[f32]) {
-        let mut side = any_side(random, row.bands.len());
-        // A used index 0 is no coefficient here, and a real one in liblc3.
-        for index in &mut side.indices {
-            *index = (*index).max(1);
-        }
+        let side = any_side(random, row.bands.len());
         let mut lent = Lent::new(lines);
         decode(row, &side, &mut lent);
         let mut theirs = lines.to_vec();
@@ -105,6 +106,56 @@ impl Tally {
         self.active += u64::from(side.orders[..side.filters].iter().any(|n| *n > 0));
         self.compare(&theirs, lent.list());
     }
+}
+
+/// Side data as liblc3's decoder goes by them: it has a filter for each band,
+/// whatever the count, and one that does not act has order 0.
+fn by_band(call: &Decode) -> Side {
+    let mut side = call.side.clone();
+    side.filters = call.row.bands.len();
+    for filter in (0..2).filter(|f| !call.acts(*f)) {
+        side.orders[filter] = 0;
+    }
+    side
+}
+
+/// The decoder on all kinds of spectra. liblc3 makes NaN of some infinities and 0
+/// of some -0, as stages beyond the order with coefficients 0 would. So lines are
+/// the same if their numbers are, and calls in which it meets or leaves a line
+/// that is not finite are left out. Whether all other lines are the same, with
+/// index 0 used in a quarter of the calls.
+fn decoded() -> bool {
+    let random = &mut Random(SEED);
+    let finite = |lines: &[f32]| lines.iter().all(|x| x.is_finite());
+    let (mut calls, mut with_0) = (0, 0);
+    let mut differ = Differing::default();
+    for n in 0..DECODED {
+        let call = decoder::any_with_0(random, &ROWS[n % ROWS.len()]);
+        let Decode {
+            row, side, lines, ..
+        } = &call;
+        let mut theirs = lines.clone();
+        synthesize(row, &Data::of(&by_band(&call)), &mut theirs);
+        if !finite(lines) || !finite(&theirs) {
+            continue;
+        }
+        let mut lent = Lent::new(lines);
+        decode(row, side, &mut lent);
+        calls += 1;
+        with_0 += usize::from(call.uses_0());
+        let mut pairs = theirs.iter().zip(lent.list());
+        let first = pairs.position(|(x, y)| x != y);
+        differ.take(first.is_some(), || {
+            let n = first.unwrap_or(0);
+            let (theirs, ours) = (theirs[n].to_bits(), lent.list()[n].to_bits());
+            let (name, kind) = (row.name(), KINDS[call.kind]);
+            format!("lc3: decoder: {name}, {kind}, {side:?}: line {n}: liblc3 {theirs:08X}, port {ours:08X}")
+        });
+    }
+    let Differing(differ) = differ;
+    let left_out = DECODED - calls;
+    println!("lc3: decoder: all kinds of spectra: {calls} calls compared, {with_0} of them with index 0 at a used place; {differ} differ; left out, a line is not finite: {left_out}");
+    differ == 0 && 4 * with_0 >= calls
 }
 
 /// Whether a band's three energies multiply to 0 in f32 though none is 0: there
@@ -197,5 +248,5 @@ pub fn run() -> bool {
         let (identical, apart) = (tally.identical, tally.apart);
         println!("lc3: decoder: {name}: {frames} frames, {active} with a filter acting; lines are the same in {identical} and at most {apart:.1e} of the largest line apart");
     }
-    true
+    decoder.iter().all(|tally| tally.identical == tally.frames) & decoded()
 }

@@ -1,14 +1,15 @@
 //! The word `decode`: D against the port's decoder, line for line and bit by
-//! bit, where any NaN equals any other; then the refusals, and what D does with
-//! them.
+//! bit, where any NaN equals any other; what D makes of index 0; then the
+//! refusals, and what D does with them.
 
+mod index_0;
 mod refusals;
 mod strange;
 
 use crate::compare::{first_change, first_difference, Differing};
 use crate::document::{Decode, ACCEPTED, ROWS};
 use crate::draw::{decoder, say_seed, spectra::KINDS, Random, SEED};
-use crate::original::{both, Build};
+use crate::original::{both, Build, D_INDEX_0};
 use crate::port::{decode, Lent};
 
 const CALLS: [usize; 2] = [1_200_000, 200_000];
@@ -25,6 +26,8 @@ struct OfRow {
 #[derive(Default)]
 struct Tally {
     calls: u64,
+    /// Calls with index 0 at a used place.
+    with_0: u64,
     differ: Differing,
     not_accepted: u64,
     touched: u64,
@@ -39,12 +42,13 @@ impl Tally {
         let Decode {
             row, side, lines, ..
         } = call;
-        let wanted = build.decoded(call);
+        let wanted = build.wanted_lines(call);
         let mut lent = Lent::new(lines);
         let answer = decode(row, side, &mut lent);
         let given = lent.list();
         let length = given.len();
         self.calls += 1;
+        self.with_0 += u64::from(call.uses_0());
         self.kinds[call.kind] += 1;
         let of_row = &mut self.rows[row.place()];
         of_row.calls += 1;
@@ -86,6 +90,7 @@ impl Tally {
     fn print(&self, name: &str) -> bool {
         let Tally {
             calls,
+            with_0,
             differ: Differing(differ),
             not_accepted,
             touched,
@@ -93,8 +98,10 @@ impl Tally {
             moved,
             ..
         } = self;
-        println!("decode: {name}: D against tns_decode: {calls} calls compared, {moved} changed a line; {differ} differ, {not_accepted} not accepted, {touched} changed a line outside the acting bands, {guards} wrote beyond the lines");
-        differ + not_accepted + touched + guards == 0
+        println!("decode: {name}: D against tns_decode: {calls} calls compared, {with_0} of them with index 0 at a used place, which D gets as {D_INDEX_0}, {moved} changed a line; {differ} differ, {not_accepted} not accepted, {touched} changed a line outside the acting bands, {guards} wrote beyond the lines");
+        // Index 0 is what D and the port differ in: a quarter of the calls is to
+        // use it.
+        differ + not_accepted + touched + guards == 0 && 4 * with_0 >= *calls
     }
 }
 
@@ -125,6 +132,7 @@ pub fn run() -> bool {
         }
         good &= tally.print(build.name);
     }
+    good &= index_0::run(&builds);
     good &= refusals::run(&builds[0]);
     strange::run(&builds[0]);
     good

@@ -3,7 +3,7 @@
 //! that turn out accepted are compared with D.
 
 use crate::compare::{first_change, first_difference, refusals::Tally};
-use crate::document::{refusals, Answer, Row, ACCEPTED, ROWS};
+use crate::document::{refusals, Answer, Decode, Row, Side, ACCEPTED, ROWS};
 use crate::draw::{any_length, over, Random, SEED};
 use crate::original::Build;
 use crate::port::{decode_lines, Lent};
@@ -72,6 +72,17 @@ impl Input {
         }
     }
 
+    /// The call of an input that document 01 accepts.
+    fn call(&self, lines: Vec<f32>) -> Option<Decode> {
+        let numbers = [&[0, self.filters], &self.orders[..], &self.indices].concat();
+        Some(Decode {
+            row: Row::of(self.duration, self.bandwidth)?,
+            side: Side::of_record(numbers[..].try_into().ok()?),
+            kind: 0,
+            lines,
+        })
+    }
+
     fn by_table(&self) -> Answer {
         refusals::spectrum(self.duration, self.bandwidth, self.length)
             .or_else(|| refusals::side(self.filters, &self.orders, &self.indices))
@@ -118,11 +129,8 @@ impl Calls<'_> {
         let mut lent = Lent::new(&before);
         let given = decode_lines(duration, bandwidth, filters, orders, indices, lent.lend());
         let other = if wanted == ACCEPTED {
-            let mut lines = before;
-            let wide = |list: &[u8]| list.iter().map(|n| *n as usize).collect::<Vec<_>>();
-            let (filters, orders, indices) = (filters as usize, wide(orders), wide(indices));
-            (self.build.decode)(duration, bandwidth, filters, &orders, &indices, &mut lines);
-            first_difference(&lines, lent.list())
+            let call = input.call(before).expect("document 01 accepts it");
+            first_difference(&self.build.wanted_lines(&call), lent.list())
         } else {
             first_change(&before, lent.list())
         };
