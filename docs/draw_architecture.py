@@ -18,7 +18,7 @@ ACROSS = {
     "tns_program": 0, "tns_wording": 0, "tns_bits": 0,
     "tns_tables": 1.2, "tns_cost": 1.2, "tns_side": 2.1, "tns_index": 2.5,
     "tns_decode": 4.1, "tns_frames": 4.3, "tns_rows": 4.6, "tns_exact": 4.95,
-    "tns_filters": 5.55, "tns_lattices": 6.0, "tns_encode": 6.3, "tns": 4.4, "replay": 4.4,
+    "tns_filters": 5.55, "tns_lattices": 6.0, "tns_encode": 6.3, "tns_round_trip": 3.3, "tns": 4.4, "replay": 4.4,
     "tns_lags": 6.7, "tns_recursion": 7.55, "tns_analysis": 7.3, "tns_examples": 7.3, "tns_reflections": 8.55,
 }
 SAYS = {
@@ -28,7 +28,7 @@ SAYS = {
     "tns_index": "index, coefficient", "tns_exact": "demand 3", "tns_rows": "durations, bands", "tns_frames": "checks 1 to 3",
     "tns_lattices": "one band", "tns_filters": "the bands of a row", "tns_decode": "the decode call",
     "tns_lags": "autocorrelation", "tns_recursion": "predictor, gain", "tns_reflections": "step-down", "tns_analysis": "a filter, a frame",
-    "tns_encode": "the encode call", "tns": "what C and Rust link", "tns_examples": "worked cases", "replay": "the lists",
+    "tns_encode": "the encode call", "tns_round_trip": "encode, then decode", "tns": "what C and Rust link", "tns_examples": "worked cases", "replay": "the lists",
 }
 WIDTH, HEIGHT, STEP, LEFT, TOP = 124, 38, 130, 16, 16
 ROWS = 8

@@ -11,7 +11,9 @@ pub mod temporal_noise_shaping {
         Some(numbers.map(|n| u8::try_from(n).unwrap_or(u8::MAX)))
     }
 
-    /// Decodes a spectrum in place. A number over 255 is refused as 255.
+    /// Decodes a spectrum in place. A number over 255 is refused as 255. Where an index 0 is used, the
+    /// lines are others than lc3-codec's, which takes it for coefficient 0; here it is the encoder's
+    /// coefficient, -0.99573416.
     ///
     /// ```
     /// use gillsextant::decoder::temporal_noise_shaping::apply_temporal_noise_shaping;

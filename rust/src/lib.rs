@@ -23,7 +23,8 @@
 //! denormals-are-zero set: it works in the default one, and the thread has its own again afterwards.
 //!
 //! Coming from lc3-codec: [`encoder::temporal_noise_shaping`] and [`decoder::temporal_noise_shaping`]
-//! have its names. They answer with a `Result` where it panics.
+//! have its names. They answer with a `Result` where it panics. One index is decoded otherwise: 0 is
+//! the coefficient that the encoder wrote it for, where lc3-codec's decoder takes it for no coefficient.
 #![no_std]
 #![deny(missing_docs)]
 
@@ -69,7 +70,7 @@ pub struct SideData {
     pub filters: u8,
     /// Each filter's order, 0 to 8.
     pub orders: [u8; 2],
-    /// Eight for each filter, 0 to 16; 8 stands for 0.
+    /// Eight for each filter, 0 to 16; 8 stands for the coefficient 0, and 0 for -0.99573416.
     pub indices: [u8; 16],
 }
 
@@ -121,7 +122,7 @@ pub fn encode(
     sys::encode(duration.code(), bandwidth.code(), bits, near_nyquist, lines)
 }
 
-/// Decodes a spectrum in place.
+/// Decodes a spectrum in place. An index stands for the coefficient that [`encode`] reports for it.
 #[inline]
 pub fn decode(
     duration: Duration,

@@ -16,7 +16,7 @@ use Rattle.tns_filters.specs.Filters.{Filter, filterWith, rowFiltered}
 use Rattle.tns_decode.specs.declared.DecodeAnswer.{DecodeAnswer}
 use Rattle.tns_decode.specs.declared.DecodeAnswer.the-variants.{Decoded, Refused}
 
--- a filter of the decoder, by its order and eight indices: they stand for the coefficients that they stand for in the encoder, index 0 too
+-- a filter of the decoder, by its order and eight indices: the same seventeen coefficients stand for them as in the encoder
 abbrev pub decoderFilter : ℕ → List ℕ → Filter
 decoderFilter order indices = filterWith (map coefficientOf indices) order
 

@@ -1,4 +1,5 @@
--- Worked examples: document 01's marked cases, a frame of demand 3, and a refusal of another kind. Nothing rests on them.
+-- Worked examples: document 01's marked cases, a frame of demand 3, index 0 decoded, and a refusal of another kind. Nothing rests on them.
 pub mod Marked
 pub mod Worked
+pub mod IndexZero
 pub mod OtherRefusals

@@ -1,9 +1,11 @@
 //! What D makes of index 0, at which the port differs from it: D's coefficient is
 //! 0, E's the sine of -8 steps, which D has under another number.
 
+use crate::compare::first_difference;
 use crate::document::{Decode, Side, ROWS};
 use crate::original::{Build, D_INDEX_0};
 use crate::port::{decode, Lent};
+use crate::words::decode::strange::changed;
 
 /// Other numbers that stand for the sine of -8 steps. Their steps are rounded
 /// otherwise, and the f32s lie next to E's.
@@ -21,7 +23,8 @@ fn coefficients(build: &Build) -> bool {
     (index, real) == (0, of_e)
 }
 
-/// The smallest call that shows it: one filter of order 1 on lines of 1.
+/// The smallest call that shows it: one filter of order 1 on lines of 1. The
+/// checker works it too (`IndexZero` of tns_examples).
 fn shown(build: &Build) -> bool {
     let mut side = Side::plain(0, 1);
     side.indices[0] = 0;
@@ -34,10 +37,16 @@ fn shown(build: &Build) -> bool {
     let mut lent = Lent::new(&call.lines);
     decode(call.row, &call.side, &mut lent);
     let (own, wanted) = (build.decoded(&call), build.wanted_lines(&call));
-    let lines = [&own[..], &wanted, lent.list()].map(|lines| lines[13].to_bits());
-    let [own, wanted, port] = lines;
-    println!("decode: {}, one filter of order 1 and index 0, 80 lines of 1: line 13 is {own:08X} in D, {wanted:08X} in D with {D_INDEX_0}, {port:08X} here", call.row.name());
-    own != port && wanted == port
+    let port = lent.list();
+    let told = |lines: &[f32]| {
+        let [first, last] = [13, 79].map(|n| lines[n].to_bits());
+        format!(
+            "{}, line 13 {first:08X}, line 79 {last:08X}",
+            changed(lines)
+        )
+    };
+    println!("decode: {}, one filter of order 1 and index 0, 80 lines of 1: D: {}; D with {D_INDEX_0}: {}; port: {}", call.row.name(), told(&own), told(&wanted), told(port));
+    first_difference(&own, port) == Some(13) && first_difference(&wanted, port).is_none()
 }
 
 pub fn run(builds: &[Build; 2]) -> bool {

@@ -7,7 +7,7 @@ use crate::document::{Row, ROWS};
 use crate::original::Build;
 
 /// Which lines are no longer 1.
-fn changed(lines: &[f32]) -> String {
+pub fn changed(lines: &[f32]) -> String {
     let other = |line: &f32| *line != 1.0;
     match (lines.iter().position(other), lines.iter().rposition(other)) {
         (Some(first), Some(last)) => format!("lines {first} to {last} changed"),
