@@ -367,7 +367,7 @@ def decode_call(tables, call, across):
     if answer is not None:
         answer.lines = left_alone(call)
         return answer, []
-    # Filters without a band do not act.
+    # Index 0 is a coefficient like any other (C-14). Filters without a band do not act.
     filters = [
         ([coefficient_of(i) for i in used(call.orders, call.indices, f)], band)
         for f, band in enumerate(ROWS[call.duration][call.bandwidth][: call.filters])

@@ -1,6 +1,6 @@
 -- Index 0 decoded, computed by the checker from the definitions: the input of docs/DIFFERENCES.md that shows the decoder and D apart. 80 lines of 1
--- at 10 ms and bandwidth 0, one filter of order 1 whose index is 0. D leaves every line 1. Shown are the lines around the band's start, where nothing
--- is added yet, and its last line; they are those that D leaves with index 67, which is the same coefficient to it.
+-- at 10 ms and bandwidth 0, one filter of order 1 whose index is 0. D leaves every line 1. Shown are lines 11 to 15, around the band's start at 12,
+-- and line 79, its last. They are those that D leaves with index 67, which is the same coefficient to it (oracle/RESULTS.txt).
 use mathlib.Core.Path.{_≡_, refl}
 use mathlib.Core.List.{List, [], _∷_, _++_, map}
 use Prim.Native.Nat.{ℕ}
