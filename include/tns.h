@@ -51,7 +51,7 @@ tns_answer tns_encode(uint8_t duration, uint8_t bandwidth, uint64_t bits, bool n
                       float *lines, size_t lines_len, uint8_t side[20], float coefficients[16]);
 
 /* Decodes a spectrum in place. Refusals 1 to 7. An index stands for the coefficient that tns_encode
- * writes for it: 8 for 0, 0 for -0.99573416. */
+ * writes beside it: index 8 for 0, index 0 for -0.99573416. */
 tns_answer tns_decode(uint8_t duration, uint8_t bandwidth, uint8_t filters, const uint8_t *orders,
                       size_t orders_len, const uint8_t *indices, size_t indices_len, float *lines,
                       size_t lines_len);
