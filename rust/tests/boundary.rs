@@ -353,8 +353,9 @@ fn refusals_speak() {
     assert_eq!(Refusal::Weighting.number(), 8);
 }
 
-/// How far lines are from those that they should be, as a part of the largest.
+/// How far finite lines are from those that they should be, as a part of the largest.
 fn apart(wanted: &[f32], found: &[f32]) -> f32 {
+    assert!(wanted.iter().chain(found).all(|x| x.is_finite()));
     let most = |sizes: &mut dyn Iterator<Item = f32>| sizes.fold(0.0, f32::max);
     let largest = most(&mut wanted.iter().map(|x| x.abs()));
     let pairs = wanted.iter().zip(found);
