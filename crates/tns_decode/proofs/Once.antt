@@ -13,7 +13,7 @@ use Rattle.tns_lattices.specs.Lattice.{atRest}
 use Rattle.tns_lattices.specs.DecoderLattice.{lineDecoded}
 use Rattle.tns_filters.proofs.Filters.{acting, without-band}
 use Rattle.tns_decode.specs.Decoder.{rowDecoded, decodeChecks, spectrumDecoded}
-use Rattle.tns_decode.proofs.CountedFilters.{first, second, one-decoded, two-decoded}
+use Rattle.tns_decode.proofs.CountedFilters.{first, second, one-counted, two-counted, row-is-decoded}
 
 twice-is-once : (row : Row) (orders indices : List ℕ) (lines : List Float) → row .second ≡ noBand
     → rowDecoded row 2 orders indices lines ≡ rowDecoded row 1 orders indices lines
@@ -22,7 +22,8 @@ twice-is-once row orders indices lines none =
     let g = second row orders indices lines in
     let once = acting lineDecoded (row .first) f atRest lines in
     let again = without-band lineDecoded (row .second) none g _ _ in
-    sym (two-decoded row orders indices lines _ _ _ _ once again) ∙ one-decoded row orders indices lines _ _ once
+    sym (row-is-decoded row orders indices lines 2 _ _ (two-counted row orders indices lines atRest _ _ _ _ once again))
+    ∙ row-is-decoded row orders indices lines 1 _ _ (one-counted row orders indices lines atRest _ _ once)
 
 -- the two calls pass the same checks
 same-checks : (duration bandwidth : ℕ) (orders indices : List ℕ) (lines : ℕ)

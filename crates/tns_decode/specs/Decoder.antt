@@ -5,12 +5,12 @@ use Prim.Native.Nat.{ℕ}
 use lib.ListN.{length}
 use lib.Ieee.{Float}
 use Rattle.tns_lists.specs.Counted.{counted}
-use Rattle.tns_refusals.specs.Refusals.{Verdict, refused, unlessRefused, noFault, says, sideChecks}
+use Rattle.tns_refusals.specs.Refusals.{Verdict, refused, unlessRefused, noFault, says}
 use Rattle.tns_index.specs.Quantizer.{coefficientOf}
 use Rattle.tns_rows.specs.Durations.{durationOf}
 use Rattle.tns_rows.specs.Bands.{rowOf}
 use Rattle.tns_rows.specs.declared.row.Row.{Row}
-use Rattle.tns_frames.specs.Frames.{frameChecks}
+use Rattle.tns_calls.specs.Calls.{callChecks}
 use Rattle.tns_lattices.specs.DecoderLattice.{lineDecoded}
 use Rattle.tns_filters.specs.Filters.{Filter, filterWith, rowFiltered}
 use Rattle.tns_decode.specs.declared.DecodeAnswer.{DecodeAnswer}
@@ -26,8 +26,7 @@ rowDecoded row filters orders indices lines = rowFiltered lineDecoded row (count
 
 -- refusals 1 to 7, in number order
 unfoldable pub decodeChecks : ℕ → ℕ → ℕ → List ℕ → List ℕ → ℕ → Verdict (Unit {0})
-decodeChecks duration bandwidth filters orders indices lines =
-    frameChecks duration bandwidth lines (sideChecks filters orders indices noFault)
+decodeChecks duration bandwidth filters orders indices lines = callChecks duration bandwidth filters orders indices lines noFault
 
 -- the spectrum after the call, and on a refusal the lines that came in
 unfoldable pub spectrumDecoded : ℕ → ℕ → ℕ → List ℕ → List ℕ → List Float → List Float

@@ -1,24 +1,23 @@
-// The decode call. A frame goes through it in the order of this file: its checks in `decode`, then the
-// counted filters in the caller's own spectrum, each over the lines of its band, with coefficients by
-// its indices. This undoes the encoder's filter.
+// The decode call. A frame goes through it in the order of this file: its checks, then the counted
+// filters in the caller's own spectrum, each over the lines of its band, with coefficients by its
+// indices. This undoes the encoder's filter.
+use tns_calls::check_call;
 use tns_frames::FrameAnswer;
-use tns_frames::check_frame;
 use tns_index::coefficient_of;
 use tns_lattices::band_decoded;
 use tns_refusals::Refusal;
-use tns_refusals::SideAnswer;
-use tns_refusals::check_side;
 use tns_rows::Band;
 use tns_rows::Row;
 ghost use mathlib.Core.Path.{_≡_};
 ghost use mathlib.Core.List.{map};
 ghost use Prim.Native.Nat.{_≤_};
 ghost use lib.ListN.{length};
+ghost use Rattle.tns_lists.specs.Counted.{counted};
 ghost use Rattle.tns_refusals.specs.Refusals.{SoundSide};
 ghost use Rattle.tns_index.specs.Quantizer.{coefficientOf};
 ghost use Rattle.tns_rows.proofs.Bands.{Fits, SoundRow};
 ghost use Rattle.tns_lattices.specs.DecoderLattice.{lineDecoded};
-ghost use Rattle.tns_filters.specs.Filters.{FilteredIn};
+ghost use Rattle.tns_filters.specs.Filters.{FilteredIn, FilteredRow};
 ghost use Rattle.tns_decode.specs.Decoder.{decoderFilter, rowDecoded, Decodes};
 
 // The answer of `decode`.
@@ -39,18 +38,12 @@ pub fn decode(
 ) -> DecodeAnswer
     ensures { λ r. ⌜ Decodes duration bandwidth filters (now (orders .entry)) (now (indices .entry)) (now (lines .entry)) (now (lines .exit)) r ⌝ }
 {
-    let frame = check_frame(duration, bandwidth, lines.len());
+    let frame = check_call(duration, bandwidth, filters, orders, indices, lines.len());
     match frame {
         FrameAnswer::Refused(why) => DecodeAnswer::Refused(why),
         FrameAnswer::Sound(row) => {
-            let side = check_side(filters, orders, indices);
-            match side {
-                SideAnswer::Refused(why) => DecodeAnswer::Refused(why),
-                SideAnswer::Sound => {
-                    row_decoded(row, filters, orders, indices, lines);
-                    DecodeAnswer::Decoded
-                }
-            }
+            row_decoded(row, filters, orders, indices, lines);
+            DecodeAnswer::Decoded
         }
     }
 }
@@ -70,23 +63,31 @@ fn row_decoded(row: Row, filters: u8, orders: &[u8], indices: &[u8], lines: &mut
             return;
         }
     }
-    filters_decoded(row, filters, orders, indices, lines);
+    filters_decoded(row, filters, orders, indices, [0.0; 8], lines);
 }
 
-// The counted filters, each in its band, the states carried from the first to the second.
-fn filters_decoded(row: Row, filters: u8, orders: &[u8], indices: &[u8], lines: &mut [f32])
+// The counted filters, each in its band, the states carried from the first to the second. It answers
+// the states after them.
+fn filters_decoded(
+    row: Row,
+    filters: u8,
+    orders: &[u8],
+    indices: &[u8],
+    states: [f32; 8],
+    lines: &mut [f32],
+) -> [f32; 8]
     requires { ⌜ SoundRow row (length (now lines)) ⌝ }
     requires { ⌜ SoundSide filters (now orders) (now indices) ⌝ }
-    ensures { λ _. ⌜ now (lines .exit) ≡ rowDecoded row filters (now (orders .entry)) (now (indices .entry)) (now (lines .entry)) ⌝ }
+    ensures { λ r. ⌜ FilteredRow lineDecoded row (counted decoderFilter filters (now (orders .entry)) (now (indices .entry))) states (now (lines .entry)) r (now (lines .exit)) ⌝ }
 {
     if filters == 0 {
-        return;
+        return states;
     }
-    let states = filter_decoded(row.first, orders[0], &indices[0..8], [0.0; 8], lines);
+    let after = filter_decoded(row.first, orders[0], &indices[0..8], states, lines);
     if filters == 1 {
-        return;
+        return after;
     }
-    filter_decoded(row.second, orders[1], &indices[8..16], states, lines);
+    filter_decoded(row.second, orders[1], &indices[8..16], after, lines)
 }
 
 // One filter, in its band of the whole spectrum. It answers the states after it.

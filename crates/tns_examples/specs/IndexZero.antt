@@ -15,7 +15,7 @@ use Rattle.tns_rows.specs.Bands.{rowOf}
 use Rattle.tns_frames.specs.Frames.{frameChecks}
 use Rattle.tns_lattices.specs.Lattice.{linesBy, statesBy}
 use Rattle.tns_lattices.specs.DecoderLattice.{stageDown, stagesBelow, lineDecoded}
-use Rattle.tns_filters.specs.Filters.{bandsFiltered, rowFiltered}
+use Rattle.tns_filters.specs.Filters.{bandsRun, rowFiltered}
 use Rattle.tns_decode.specs.Decoder.{rowDecoded, decodeChecks, spectrumDecoded}
 
 abbrev after : List Float
@@ -25,5 +25,5 @@ abbrev shown : List ℕ
 shown = map (toBits binary32) (take 5 (drop 11 after) ++ drop 79 after)
 
 pub index-0-decoded : shown ≡ 0x3f800000 ∷ 0x3f800000 ∷ 0x3fff7438 ∷ 0x403f2ea0 ∷ 0x407e5dd8 ∷ 0x426c89b5 ∷ []
-unfolding ofBits toBits add sub mul coefficientOf lowestOver sideChecks rowOf frameChecks counted linesThrough stateThrough stageDown stagesBelow lineDecoded linesBy statesBy bandsFiltered rowFiltered rowDecoded decodeChecks spectrumDecoded
+unfolding ofBits toBits add sub mul coefficientOf lowestOver sideChecks rowOf frameChecks counted linesThrough stateThrough stageDown stagesBelow lineDecoded linesBy statesBy bandsRun rowFiltered rowDecoded decodeChecks spectrumDecoded
 index-0-decoded = refl

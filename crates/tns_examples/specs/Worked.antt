@@ -25,7 +25,7 @@ use Rattle.tns_analysis.specs.Analysis.{filterRecord, reflectionsOf}
 use Rattle.tns_side.specs.Quantized.{quantizedOf, absent}
 use Rattle.tns_lattices.specs.Lattice.{linesBy, statesBy}
 use Rattle.tns_lattices.specs.EncoderLattice.{stageUp, stagesTo, lineEncoded}
-use Rattle.tns_filters.specs.Filters.{bandsFiltered, rowFiltered}
+use Rattle.tns_filters.specs.Filters.{bandsRun, rowFiltered}
 use Rattle.tns_exact.specs.SideFilters.{filteredBy}
 use Rattle.tns_analysis.specs.FrameSide.{filterOf, secondOf, sideOf}
 use Rattle.tns_encode.specs.Encoder.{encodeVerdict, spectrumEncoded, sideIn}
@@ -143,5 +143,5 @@ pub record Worked : Type 0 where
   pub exactly : shown (firstExact row side frame) (secondExact row side frame) ≡ exactLines
 
 pub worked : Worked
-unfolding ofBits toBits add sub mul div neg eq lt le notAbove indexOf coefficientOf orderFrom orderOf weightingOf rowOf frameChecks linesThrough stateThrough tab products lagSum normalizedLag autocorrelation crossed reflection nextRow stepped unpredicted predicted gainOf isOn dampingOf gainRecord powerFrom power damped rowBelow rowAt reflections filterRecord reflectionsOf quantizedOf absent stageUp stagesTo lineEncoded linesBy statesBy filterOf secondOf sideOf bandsFiltered rowFiltered filteredBy encodeVerdict spectrumEncoded exactStage exactStagesTo lineExact linesExact statesExact firstExact exactCarried secondExact ne
+unfolding ofBits toBits add sub mul div neg eq lt le notAbove indexOf coefficientOf orderFrom orderOf weightingOf rowOf frameChecks linesThrough stateThrough tab products lagSum normalizedLag autocorrelation crossed reflection nextRow stepped unpredicted predicted gainOf isOn dampingOf gainRecord powerFrom power damped rowBelow rowAt reflections filterRecord reflectionsOf quantizedOf absent stageUp stagesTo lineEncoded linesBy statesBy filterOf secondOf sideOf bandsRun rowFiltered filteredBy encodeVerdict spectrumEncoded exactStage exactStagesTo lineExact linesExact statesExact firstExact exactCarried secondExact ne
 worked = record { orders = refl; coefficients = refl; filtered = refl; distant = refl; exactly = refl }

@@ -17,15 +17,15 @@ use Rattle.tns_rows.proofs.Apart.{Outside, Apart, within-length, within-outside
 use Rattle.tns_lattices.specs.Lattice.{Lattice, atRest, linesBy, statesBy, Filtered}
 use Rattle.tns_lattices.proofs.BandLines.{by-length}
 use Rattle.tns_lattices.proofs.Idle.{Idle, order-0}
-use Rattle.tns_filters.specs.Filters.{Filter, bandsFiltered, rowFiltered, FilteredIn}
+use Rattle.tns_filters.specs.Filters.{Filter, bandsRun, rowFiltered, FilteredIn, FilteredRow}
 
 -- ---- what a filter makes of some lines, from some states
 
 module _ (lattice : Lattice) where
-  abbrev change : Filter → List Float → List Float → List Float
+  abbrev pub change : Filter → List Float → List Float → List Float
   change f states lines = linesBy lattice (f .coefficients) (f .order) states lines
 
-  abbrev leaves : Filter → List Float → List Float → List Float
+  abbrev pub leaves : Filter → List Float → List Float → List Float
   leaves f states lines = statesBy lattice (f .coefficients) (f .order) states lines
 
   -- what a filter makes of its band's lines, given those of both bands: the second goes on from the states after the first
@@ -39,19 +39,35 @@ module _ (lattice : Lattice) where
 
   -- ---- none, one and two filters, one after the other
 
+  module _ (row : Row) (start xs : List Float) where
+    pub none-run : FilteredRow lattice row [] start xs start xs
+    unfolding bandsRun
+    none-run = record { states = refl; lines = refl }
+
+    pub one-run : (f : Filter) (after left : List Float) → FilteredIn lattice (row .first) f start xs after left → FilteredRow lattice row (f ∷ []) start xs after left
+    unfolding bandsRun
+    one-run f after left a = record { states = a .states; lines = a .lines }
+
+    pub two-run : (f g : Filter) (after left end result : List Float) → FilteredIn lattice (row .first) f start xs after left
+        → FilteredIn lattice (row .second) g after left end result → FilteredRow lattice row (f ∷ g ∷ []) start xs end result
+    unfolding bandsRun
+    two-run f g after left end result a b = record { states = rw (b .states, a .lines, a .states); lines = rw (b .lines, a .lines, a .states) }
+
   module _ (row : Row) (xs : List Float) where
+    -- from states at rest
+    pub at-rest : (filters : List Filter) (after left : List Float) → FilteredRow lattice row filters atRest xs after left → left ≡ rowFiltered lattice row filters xs
+    unfolding rowFiltered
+    at-rest filters after left run = run .lines
+
     pub none-filtered : xs ≡ rowFiltered lattice row [] xs
-    unfolding rowFiltered bandsFiltered
-    none-filtered = refl
+    none-filtered = at-rest [] atRest xs (none-run row atRest xs)
 
     pub one-filtered : (f : Filter) (after left : List Float) → FilteredIn lattice (row .first) f atRest xs after left → left ≡ rowFiltered lattice row (f ∷ []) xs
-    unfolding rowFiltered bandsFiltered
-    one-filtered f after left a = a .lines
+    one-filtered f after left a = at-rest (f ∷ []) after left (one-run row atRest xs f after left a)
 
     pub two-filtered : (f g : Filter) (after left end result : List Float) → FilteredIn lattice (row .first) f atRest xs after left
         → FilteredIn lattice (row .second) g after left end result → result ≡ rowFiltered lattice row (f ∷ g ∷ []) xs
-    unfolding rowFiltered bandsFiltered
-    two-filtered f g after left end result a b = rw (b .lines, a .lines, a .states)
+    two-filtered f g after left end result a b = at-rest (f ∷ g ∷ []) end result (two-run row atRest xs f g after left end result a b)
 
   -- what a filter leaves of any spectrum, by its definition
   pub acting : (band : Band) (f : Filter) (states lines : List Float)
@@ -137,7 +153,7 @@ module _ (lattice : Lattice) where
 
     -- as many lines as there were
     pub filtered-length : (filters : List Filter) → length (rowFiltered lattice row filters xs) ≡ length xs
-    unfolding rowFiltered bandsFiltered one both
+    unfolding rowFiltered bandsRun one both
     filtered-length [] = refl
     filtered-length (f ∷ []) = one-length f
     filtered-length (f ∷ g ∷ filters) = both-length f g
@@ -145,7 +161,7 @@ module _ (lattice : Lattice) where
     -- a line outside the filters' bands stays
     pub filtered-outside : (filters : List Filter) (i : ℕ) → ((k : ℕ) → k < length filters → Outside (bandOf row k) i)
         → getD (rowFiltered lattice row filters xs) i nan ≡ getD xs i nan
-    unfolding rowFiltered bandsFiltered one both
+    unfolding rowFiltered bandsRun one both
     filtered-outside [] i o = refl
     filtered-outside (f ∷ []) i o = one-outside f i (o 0 (omega arith))
     filtered-outside (f ∷ g ∷ filters) i o = both-outside f g i (o 0 (omega arith)) (o 1 (omega arith))
@@ -153,7 +169,7 @@ module _ (lattice : Lattice) where
     -- what a filter's band becomes depends on the lines of the bands alone
     pub filtered-inside : Apart (row .first) (row .second) → (filters : List Filter) (k : ℕ) → k < length filters
         → inside (bandOf row k) (rowFiltered lattice row filters xs) ≡ partFiltered filters k (inside (row .first) xs) (inside (row .second) xs)
-    unfolding rowFiltered bandsFiltered one both partFiltered
+    unfolding rowFiltered bandsRun one both partFiltered
     filtered-inside apart [] k h = absurd (omega arith)
     filtered-inside apart (f ∷ []) zero h = first-of-one f
     filtered-inside apart (f ∷ []) (suc k) h = absurd (omega arith)

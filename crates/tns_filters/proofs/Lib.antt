@@ -1,3 +1,7 @@
 -- The laws of the filters of a row.
 pub mod Filters
 pub mod Calls
+pub mod Cut
+pub mod Split
+pub mod EitherSide
+pub mod Determined

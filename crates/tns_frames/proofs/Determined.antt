@@ -16,11 +16,16 @@ use Rattle.tns_frames.proofs.band_lines.Kinds as band-lines-kinds
 use Rattle.tns_frames.proofs.band_lines.Reads as band-lines-reads
 use Rattle.tns_frames.proofs.check_frame.Kinds as check-frame-kinds
 use Rattle.tns_frames.proofs.check_frame.Reads as check-frame-reads
+use Rattle.tns_frames.proofs.last_stop.Kinds as last-stop-kinds
+use Rattle.tns_frames.proofs.last_stop.Reads as last-stop-reads
+
+last-stop : Determined 0 last-stop-kinds.ps last-stop-kinds.r last-stop-reads.Post
+last-stop κs a x y s t p q = itself p q
 
 asked-band : Determined 0 asked-band-kinds.ps asked-band-kinds.r asked-band-reads.Post
 asked-band κs a x y s t p q = itself p q
 
-frameBack : (answer : FrameAnswer) → answerBack Sound Refused (frameSays answer) ≡ answer
+pub frameBack : (answer : FrameAnswer) → answerBack Sound Refused (frameSays answer) ≡ answer
 frameBack (Sound row) = refl
 frameBack (Refused why) = ap Refused (of-eight why .back)
 

@@ -13,7 +13,8 @@ ghost use Rattle.tns_refusals.specs.Refusals.{accepted};
 ghost use Rattle.tns_rows.specs.Bands.{rowOf, noBand, bandOf, lastStop};
 ghost use Rattle.tns_frames.specs.Frames.{lengthCheck, frameOf, frameSays, askedBand, PartOf};
 
-fn last_stop(row: Row) -> usize
+// Where the last band of a row ends.
+pub fn last_stop(row: Row) -> usize
     ensures { λ r. ⌜ r ≡ lastStop row ⌝ }
 {
     let first = row.first.stop;

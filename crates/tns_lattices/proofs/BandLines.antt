@@ -1,11 +1,11 @@
--- The laws of a loop that takes the lines of a band through a lattice, whichever it is.
+-- The laws of a loop that takes the lines of a band through a lattice, whichever it is, and of a run in two parts.
 use mathlib.Core.Path.{_≡_, refl, sym, _∙_, ap}
 use mathlib.Core.List.{List, _++_}
 use Prim.Native.Nat.{ℕ, _+_, _<_, _≤_}
 use native.Mathlib.Omega.{arith}
 use lib.Ieee.{Float, nan}
 use lib.ListN.{length, take, drop, getD, set, length-set}
-use Rattle.tns_lists.proofs.InPlace.{one-more, state-more, none-left, state-left, through-length}
+use Rattle.tns_lists.proofs.InPlace.{one-more, state-more, none-left, state-left, through-length, lines-split, state-split}
 use Rattle.tns_lattices.specs.Lattice.{Lattice, linesBy, statesBy, Filtered}
 use Rattle.tns_lattices.specs.declared.Passed.{Passed}
 
@@ -53,3 +53,14 @@ module _ (lattice : Lattice) (q : List Float) (order : ℕ) where
   pub by-length : (states lines : List Float) → length (linesBy lattice q order states lines) ≡ length lines
   unfolding linesBy
   by-length states lines = through-length becomes after nan states lines
+
+  -- lines in two parts: the second goes on from the states after the first
+  pub by-parts : (states xs ys : List Float)
+      → linesBy lattice q order states (xs ++ ys) ≡ linesBy lattice q order states xs ++ linesBy lattice q order (statesBy lattice q order states xs) ys
+  unfolding linesBy statesBy
+  by-parts states xs ys = lines-split becomes after nan states xs ys
+
+  pub states-by-parts : (states xs ys : List Float)
+      → statesBy lattice q order states (xs ++ ys) ≡ statesBy lattice q order (statesBy lattice q order states xs) ys
+  unfolding statesBy
+  states-by-parts states xs ys = state-split becomes after nan states xs ys

@@ -1,4 +1,5 @@
--- The laws of a loop that takes lines upwards in place: one line more, and none left. One proof for every lattice.
+-- The laws of a loop that takes lines upwards in place: one line more, and none left; and of a run that is split at a line. One proof for every
+-- lattice.
 use mathlib.Core.Path.{_≡_, refl, ap}
 use mathlib.Core.List.{List, [], _∷_, _++_, append-assoc, append-nil}
 use Prim.Native.Nat.{ℕ, suc, _+_, _<_, _≤_}
@@ -36,6 +37,18 @@ module _ {A S : Type 0} (becomes : S → A → A) (after : S → A → S) (d : A
   unfolding linesThrough
   through-length s [] = refl
   through-length s (x ∷ xs) = ap suc (through-length (after s x) xs)
+
+  -- lines in two parts are two runs, the second from the state after the first
+  pub lines-split : (s : S) (xs ys : List A)
+      → linesThrough becomes after s (xs ++ ys) ≡ linesThrough becomes after s xs ++ linesThrough becomes after (stateThrough after s xs) ys
+  unfolding linesThrough stateThrough
+  lines-split s [] ys = refl
+  lines-split s (x ∷ xs) ys = ap (λ (l : List A). becomes s x ∷ l) (lines-split (after s x) xs ys)
+
+  pub state-split : (s : S) (xs ys : List A) → stateThrough after s (xs ++ ys) ≡ stateThrough after (stateThrough after s xs) ys
+  unfolding stateThrough
+  state-split s [] ys = refl
+  state-split s (x ∷ xs) ys = state-split (after s x) xs ys
 
   -- where a line and the state stay as they are, so do all lines
   module _ (same-line : (s : S) (x : A) → becomes s x ≡ x) (same-state : (s : S) (x : A) → after s x ≡ s) where

@@ -1,11 +1,12 @@
--- The part of a list from a start to a stop is the same where both are cut at the list's end.
-use mathlib.Core.Path.{_≡_, sym, _∙_, ap}
-use mathlib.Core.List.{List, []}
-use Prim.Native.Nat.{ℕ, _-_, _≤_, _<_, min}
+-- Laws of the part of a list from a start to a stop: it is the same where both are cut at the list's end, it is what is left of the members before
+-- the stop, and it is its two parts at any place between.
+use mathlib.Core.Path.{_≡_, refl, sym, _∙_, ap}
+use mathlib.Core.List.{List, [], _∷_, _++_}
+use Prim.Native.Nat.{ℕ, zero, suc, _+_, _-_, _≤_, _<_, min}
 use native.Mathlib.Decide.{decLt}
 use native.Mathlib.Omega.{arith}
 use lib.ListN.{length, take, drop, length-drop, drop-of-length-le}
-use lib.Seq.{take-all, take-nil}
+use lib.Seq.{take-all, take-nil, take-take, take-add, drop-drop}
 use Rattle.tns_lists.specs.Places.{part}
 
 -- beyond a list's length no more of it is taken
@@ -40,3 +41,30 @@ module _ {A : Type 0} (start stop : ℕ) (xs : List A) where
         let e : min start (min stop (length xs)) ≡ min stop (length xs) = omega arith in
         rw e (none-taken (end - end) (drop end xs) (omega arith) ∙ begins-beyond (omega arith))
   ]
+
+-- what is left of the first members
+pub drop-take : {A : Type 0} (m n : ℕ) (xs : List A) → drop m (take n xs) ≡ take (n - m) (drop m xs)
+drop-take zero n xs = let e : n - 0 ≡ n = omega arith in rw e
+drop-take (suc m) zero xs = let e : 0 - suc m ≡ 0 = omega arith in rw e
+drop-take (suc m) (suc n) [] = sym (take-nil (suc n - suc m))
+drop-take (suc m) (suc n) (x ∷ xs) = let e : suc n - suc m ≡ n - m = omega arith in rw e (drop-take m n xs)
+
+-- so a part is that of any first members that reach to its stop
+pub part-of-first : {A : Type 0} (start stop n : ℕ) (xs : List A) → stop ≤ n → part start stop (take n xs) ≡ part start stop xs
+part-of-first start stop n xs h = sym (drop-take start stop (take n xs)) ∙ ap (drop start) (take-take stop n xs h) ∙ drop-take start stop xs
+
+-- and a part of what is left from a place on, that many places earlier
+pub part-of-rest : {A : Type 0} (n start stop : ℕ) (xs : List A) → n ≤ start → part (start - n) (stop - n) (drop n xs) ≡ part start stop xs
+part-of-rest {A} n start stop xs h =
+    let place : n + (start - n) ≡ start = omega arith in
+    let many : stop - n - (start - n) ≡ stop - start = omega arith in
+    rw many (ap (take (stop - start)) (drop-drop (start - n) n xs ∙ ap (λ (k : ℕ). drop k xs) place))
+
+-- cut between start and stop
+pub part-split : {A : Type 0} (start n stop : ℕ) (xs : List A) → start ≤ n → n ≤ stop → part start stop xs ≡ part start n xs ++ part n stop xs
+part-split {A} start n stop xs h k =
+    let many : stop - start ≡ n - start + (stop - n) = omega arith in
+    let place : start + (n - start) ≡ n = omega arith in
+    ap (λ (m : ℕ). take m (drop start xs)) many
+    ∙ take-add (n - start) (stop - n) (drop start xs)
+    ∙ ap (λ (l : List A). take (n - start) (drop start xs) ++ take (stop - n) l) (drop-drop (n - start) start xs ∙ ap (λ (m : ℕ). drop m xs) place)

@@ -1,5 +1,5 @@
 -- Laws of a change within one band, whatever it is: places outside the band keep their lines, and bands apart from it theirs. The bands of a row
--- are apart, and none reaches before the duration's first line or past the row's last stop: one test over the rows of both durations.
+-- come one after the other, and none reaches before the duration's first line or past the row's last stop: one test over the rows of both durations.
 use mathlib.Core.Path.{_≡_, refl, sym, _∙_, ap, subst}
 use mathlib.Core.Logic.{_⊎_, inl, inr, ⊎-elim}
 use mathlib.Core.Bool.{Bool, true, false, _&&_, _||_}
@@ -32,6 +32,10 @@ not-outside band i from to = ⊎-elim (λ before. lt-irrefl i (omega arith)) (λ
 -- two bands with no line in common
 abbrev pub Apart : Band → Band → Type 0
 Apart a b = (a .stop ≤ b .start) ⊎ (b .stop ≤ a .start)
+
+-- the second starts where the first stops, or after it; or there is no second
+abbrev pub InTurn : Band → Band → Type 0
+InTurn a b = (a .stop ≤ b .start) ⊎ (b .stop ≡ 0)
 
 -- ---- one change within one band
 
@@ -97,27 +101,27 @@ module _ (band : Band) (change : List Float → List Float) (xs : List Float) (f
 notBefore : ℕ → Band → Bool
 notBefore firstLine band = eqb (band .stop) 0 || leb firstLine (band .start)
 
--- the two have no line in common
-apartIn : List ℕ → Bool
-apartIn row = leb (bandFrom 0 row .stop) (bandFrom 4 row .start) || leb (bandFrom 4 row .stop) (bandFrom 0 row .start)
+-- the second band, if there is one, comes after the first
+inTurn : List ℕ → Bool
+inTurn row = leb (bandFrom 0 row .stop) (bandFrom 4 row .start) || eqb (bandFrom 4 row .stop) 0
 
 -- the first band starts no later than the duration's first line
 startsBy : ℕ → List ℕ → Bool
 startsBy firstLine row = leb (bandFrom 0 row .start) firstLine
 
--- neither band starts early, the two are apart, and the first does not start late
+-- neither band starts early, the two come in turn, and the first does not start late
 laidOut : ℕ → List ℕ → Bool
 laidOut firstLine row =
     (notBefore firstLine (bandFrom 0 row) && notBefore firstLine (bandFrom 4 row))
-    && (apartIn row && startsBy firstLine row)
+    && (inTurn row && startsBy firstLine row)
 
 all-laid-out : (d : Duration) → every (laidOut (numbersOf d .firstLine)) (rowsOf d) ≡ true
-unfolding laidOut notBefore apartIn startsBy
+unfolding laidOut notBefore inTurn startsBy
 all-laid-out Ten = refl
 all-laid-out SevenPointFive = refl
 
 none-laid-out : (d : Duration) → laidOut (numbersOf d .firstLine) [] ≡ true
-unfolding laidOut notBefore apartIn startsBy
+unfolding laidOut notBefore inTurn startsBy
 none-laid-out Ten = refl
 none-laid-out SevenPointFive = refl
 
@@ -146,15 +150,19 @@ module _ (d : Duration) (bandwidth : ℕ) where
   laid-out = every-at (laidOut (numbersOf d .firstLine)) (rowsOf d) (all-laid-out d) [] (none-laid-out d) bandwidth
 
   each : (notBefore (numbersOf d .firstLine) (bandFrom 0 numbers) ≡ true) × (notBefore (numbersOf d .firstLine) (bandFrom 4 numbers) ≡ true)
-      × (apartIn numbers ≡ true) × (startsBy (numbersOf d .firstLine) numbers ≡ true)
+      × (inTurn numbers ≡ true) × (startsBy (numbersOf d .firstLine) numbers ≡ true)
   unfolding laidOut
   each =
-      all-four (notBefore (numbersOf d .firstLine) (bandFrom 0 numbers)) (notBefore (numbersOf d .firstLine) (bandFrom 4 numbers)) (apartIn numbers)
+      all-four (notBefore (numbersOf d .firstLine) (bandFrom 0 numbers)) (notBefore (numbersOf d .firstLine) (bandFrom 4 numbers)) (inTurn numbers)
       (startsBy (numbersOf d .firstLine) numbers) laid-out
 
+  pub row-in-turn : InTurn (rowOf d bandwidth .first) (rowOf d bandwidth .second)
+  unfolding rowOf numbers inTurn
+  row-in-turn = ⊎-elim (λ e. inl (leb-true _ _ e)) (λ e. inr (eqb-true _ _ e)) (either _ _ (each .2))
+
+  -- so they have no line in common
   pub row-apart : Apart (rowOf d bandwidth .first) (rowOf d bandwidth .second)
-  unfolding rowOf numbers apartIn
-  row-apart = ⊎-elim (λ e. inl (leb-true _ _ e)) (λ e. inr (leb-true _ _ e)) (either _ _ (each .2))
+  row-apart = ⊎-elim (λ after. inl after) (λ none. inr (omega arith)) row-in-turn
 
   -- no band reaches before the duration's first line
   pub early-outside : (k i : ℕ) → i < numbersOf d .firstLine → Outside (bandOf (rowOf d bandwidth) k) i

@@ -8,7 +8,7 @@ use lib.ListN.{length, take, drop, length-drop}
 use lib.Seq.{length-take-le}
 use Rattle.tns_refusals.proofs.Sides.{none-over}
 use Rattle.tns_rows.proofs.Bands.{Fits}
-use Rattle.tns_decode.proofs.CountedFilters.{none-decoded, one-decoded, two-decoded}
+use Rattle.tns_decode.proofs.CountedFilters.{none-counted, one-counted, two-counted}
 use Rattle.tns_decode.proofs.filters_decoded.Statement.{statement}
 use Rattle.tns_decode.proofs.filters_decoded.Tie as tie
 
@@ -19,7 +19,7 @@ eight is h = length-take-le 8 (drop 8 is) (omega (arith, length-drop 8 is))
 returns : tie.Need-returns
 returns c =
     let g = c .before .before .before .before .args in
-    rw (c .if1 .taken) (none-decoded (g .row) (g .orders .now) (g .indices .now) (g .lines .now))
+    rw (c .if1 .taken) (none-counted (g .row) (g .orders .now) (g .indices .now) (g .lines .now) (g .states))
 
 first-requires : tie.Need-filter-decoded-requires
 first-requires c κs =
@@ -34,7 +34,7 @@ returns-2 : tie.Need-returns-2
 returns-2 c =
     let start = c .before .before .before .before .before .before .before .before .before .before .before in
     let g = start .args in
-    rw (c .if2 .taken) (one-decoded (g .row) (g .orders .now) (g .indices .now) (g .lines .now) _ _ (c .before .before .before .filter-decoded .ensures))
+    rw (c .if2 .taken) (one-counted (g .row) (g .orders .now) (g .indices .now) (g .lines .now) (g .states) _ _ (c .before .before .before .filter-decoded .ensures))
 
 second-requires : tie.Need-filter-decoded-requires-2
 second-requires c κs =
@@ -55,7 +55,7 @@ returns-3 c =
     let g = start .args in
     let both : g .filters ≡ 2 = omega (arith, start .pre .1 .count-at-most-2, tests .if2 .left, first .before .before .before .before .if1 .left) in
     rw both
-    (two-decoded (g .row) (g .orders .now) (g .indices .now) (g .lines .now) _ _ _ _ (first .filter-decoded .ensures) (second .filter-decoded2 .ensures))
+    (two-counted (g .row) (g .orders .now) (g .indices .now) (g .lines .now) (g .states) _ _ _ _ (first .filter-decoded .ensures) (second .filter-decoded2 .ensures))
 
 pub filters-decoded-spec : {M : Type 1} → statement M
 filters-decoded-spec =

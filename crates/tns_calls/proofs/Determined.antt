@@ -1,0 +1,57 @@
+-- Any two results that a contract allows for one input coincide: the law of `tns_refusals`, cited for each public function of this crate.
+use mathlib.Core.Path.{_≡_, refl, _∙_, ap}
+use mathlib.Core.Bool.{cond}
+use Prim.Native.Nat.{ℕ, _≤_}
+use native.Mathlib.Nat.{lt-irrefl}
+use native.Mathlib.Omega.{arith}
+use lib.Dec.{eqb}
+use borrow.Author.Tests.{ne-eqb}
+use Rattle.tns_refusals.specs.Refusals.{Fault, numbered, placed, Verdict, accepted, refused, numberOf, says}
+use Rattle.tns_refusals.proofs.Eight.{refusalBack, of-eight}
+use Rattle.tns_refusals.proofs.Determined.{Determined, coincide, answerBack}
+use Rattle.tns_rows.specs.declared.row.Row.{Row}
+use Rattle.tns_frames.specs.Frames.{frameSays}
+use Rattle.tns_frames.specs.declared.FrameAnswer.the-variants as frame
+use Rattle.tns_frames.proofs.Determined.{frameBack}
+use Rattle.tns_calls.specs.Calls.{lineSays, lineFrameSays}
+use Rattle.tns_calls.specs.declared.LineRefusal.{LineRefusal}
+use Rattle.tns_calls.specs.declared.LineRefusal.the-variants.{Call, Line, OutputLength}
+use Rattle.tns_calls.specs.declared.LineFrame.{LineFrame}
+use Rattle.tns_calls.specs.declared.LineFrame.the-variants.{Sound, Refused}
+use Rattle.tns_calls.proofs.check_call.Kinds as check-call-kinds
+use Rattle.tns_calls.proofs.check_call.Reads as check-call-reads
+use Rattle.tns_calls.proofs.check_line_call.Kinds as check-line-call-kinds
+use Rattle.tns_calls.proofs.check_line_call.Reads as check-line-call-reads
+
+check-call : Determined 2 check-call-kinds.ps check-call-kinds.r check-call-reads.Post
+check-call κs a x y s t p q = coincide frameSays (answerBack frame.Sound frame.Refused) frameBack p q
+
+-- the refusal of a call at a line back from its fault
+abbrev pub lineRefusalBack : Fault → LineRefusal
+lineRefusalBack (numbered n) = cond (eqb n 16) Line (cond (eqb n 17) OutputLength (Call (refusalBack (numbered n))))
+lineRefusalBack (placed n place found) = Call (refusalBack (placed n place found))
+
+-- a fault that every decode call can have is neither 16 nor 17
+of-a-call : (fault : Fault) → numberOf fault ≤ 8 → lineRefusalBack fault ≡ Call (refusalBack fault)
+of-a-call (numbered n) h =
+    let not-16 : n ≡ 16 → ⊥ = λ e. lt-irrefl n (omega arith) in
+    let not-17 : n ≡ 17 → ⊥ = λ e. lt-irrefl n (omega arith) in
+    simp (ne-eqb n 16 not-16, ne-eqb n 17 not-17)
+of-a-call (placed n place found) h = refl
+
+pub line-refusal-back : (why : LineRefusal) → lineRefusalBack (lineSays why) ≡ why
+line-refusal-back (Call why) = of-a-call (says why) (of-eight why .at-most-8) ∙ ap Call (of-eight why .back)
+line-refusal-back Line = refl
+line-refusal-back OutputLength = refl
+
+-- an answer back from its verdict
+abbrev pub lineAnswerBack : {A R : Type 0} → (A → R) → (LineRefusal → R) → Verdict A → R
+lineAnswerBack accept refuse (accepted a) = accept a
+lineAnswerBack accept refuse (refused fault) = refuse (lineRefusalBack fault)
+
+lineFrameBack : (answer : LineFrame) → lineAnswerBack Sound Refused (lineFrameSays answer) ≡ answer
+lineFrameBack (Sound row) = refl
+lineFrameBack (Refused why) = ap Refused (line-refusal-back why)
+
+check-line-call : Determined 2 check-line-call-kinds.ps check-line-call-kinds.r check-line-call-reads.Post
+check-line-call κs a x y s t p q = coincide lineFrameSays (lineAnswerBack Sound Refused) lineFrameBack p q

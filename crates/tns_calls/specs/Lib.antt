@@ -1,0 +1,2 @@
+-- What a reader has to believe of the checks of the decode calls.
+pub mod Calls
