@@ -17,6 +17,8 @@ import sys
 WHOSE = ("port", "guarded", "crate", "Rust", "liblc3")
 COMPARED = ("port", "Rust", "liblc3")
 OWN = ("port", "guarded", "crate")
+# Which calls of the port are measured for restart, likewise.
+PARTS = ("decode", "restart", "copy", "save")
 
 ROWS = [(duration, bandwidth) for duration in "01" for bandwidth in "01234"]
 DURATIONS = {"0": "10 ms", "1": "7.5 ms"}
@@ -24,6 +26,13 @@ DURATIONS = {"0": "10 ms", "1": "7.5 ms"}
 # What is asked: the ratio to the Rust's time and to liblc3's, required, and wanted if there is such.
 ENCODE = {"Rust": (2.0, 2.5), "liblc3": (1.5, 2.0)}
 DECODE = {"Rust": (0.95, None), "liblc3": (1.0, None)}
+# What is asked of restart and of save: at most this part of another call.
+RESTART = {("restart", "decode"): 0.6, ("save", "copy"): 1.1}
+
+
+def calls_of(name):
+    """The calls that are measured under a name."""
+    return PARTS if name[0] == "restart" else WHOSE
 
 
 def read_times(folder):
@@ -31,8 +40,9 @@ def read_times(folder):
     head, times = [], {}
     for line in (folder / "times").read_text().splitlines():
         fields = line.split("\t")
-        if len(fields) == 5 + len(WHOSE):
-            times[tuple(fields[:4])] = (fields[4], dict(zip(WHOSE, map(float, fields[5:]))))
+        if len(fields) == 5 + len(calls_of(fields)):
+            of = dict(zip(calls_of(fields), map(float, fields[5:])))
+            times[tuple(fields[:4])] = (fields[4], of)
         else:
             head.append(line)
     return head, times
@@ -52,7 +62,7 @@ def read_counts(folder):
             *name, whose, calls = label
             found[tuple(name), whose] = total / int(calls)
     names = {name for name, _ in found}
-    return {n: {w: found[n, w] - found[n, "nothing"] for w in WHOSE} for n in names}
+    return {n: {w: found[n, w] - found[n, "nothing"] for w in calls_of(n)} for n in names}
 
 
 def processor():
@@ -126,6 +136,40 @@ def print_guard(title, names, times, counts):
     )
 
 
+def print_restart(names, times, counts):
+    """A restart beside a whole decode, and a save beside a copy that is decoded."""
+    print(
+        f"{'row':<20}{'line':<9}{'decode':>8}{'restart':>9}{'part':>7}{'copied':>9}{'save':>8}"
+        f"{'part':>7}{'decode':>10}{'restart':>9}{'copied':>8}{'save':>8}"
+    )
+    for name in names:
+        of = times[name][1]
+        _, duration, bandwidth, where = name
+        cells = (
+            f"{of['decode']:>8.1f}{of['restart']:>9.1f}{of['restart'] / of['decode']:>7.3f}"
+            f"{of['copy']:>9.1f}{of['save']:>8.1f}{of['save'] / of['copy']:>7.3f}"
+        )
+        instructions = "".join(
+            f"{round(counts[name][w]):>{width}}" for w, width in zip(PARTS, (10, 9, 8, 8))
+        )
+        print(f"{row_name(duration, bandwidth):<20}{where:<9}{cells}{instructions}")
+    print()
+
+
+def print_restart_marks(names, times):
+    """The highest part, where it is, and the measurements above the mark."""
+    titles = {"decode": "restart/decode", "copy": "save/decode and copy"}
+    for (call, other), required in RESTART.items():
+        of = {name: times[name][1][call] / times[name][1][other] for name in names}
+        high = max(of, key=of.get)
+        above = sum(part > required for part in of.values())
+        state = "met" if above == 0 else f"NOT met by {above} of {len(of)}"
+        print(
+            f"order 8, {titles[other]}: highest {of[high]:.3f} ({row_name(*high[1:3])} {high[3]}); "
+            f"required at most {required}: {state}"
+        )
+
+
 def print_marks(title, names, times, marks):
     """The lowest ratio, where it is, and the measurements below each mark."""
     for other, (required, wanted) in marks.items():
@@ -165,6 +209,16 @@ def main():
     print()
     decode = [("decode", d, b, f"order {o}") for d, b in ROWS for o in range(9)]
     print_rows(decode, times, counts)
+    print("restart: the port alone, at order 8 with both filters counted. decode: tns_decode in")
+    print("place; restart: tns_decode_restart at the middle of the lines from the first band's")
+    print("start to the last stop, and its part of decode; copied: a copy of the spectrum into")
+    print("the output and tns_decode there; save: tns_decode_save before the same line, and its")
+    print("part of that; instructions.")
+    print()
+    restart = sorted((n for n in times if n[0] == "restart"), key=lambda n: n[1:3])
+    if [name[1:3] for name in restart] != ROWS:
+        sys.exit("table: restart was not measured in every row")
+    print_restart(restart, times, counts)
     print("guard: the port by its exports, by the same inside the Rust crate's guard of the float")
     print("environment, and by the crate's functions; what the guard and the crate take over the")
     print("exports, in ns and as a ratio; instructions. The crate also hands the answer over as a")
@@ -178,6 +232,7 @@ def main():
     print_marks("decode, order 0", [n for n in decode if n[3] == "order 0"], times, DECODE)
     others = [n for n in decode if n[3] != "order 0"]
     print_marks("decode, orders 1 to 8", others, times, DECODE)
+    print_restart_marks(restart, times)
     print_guard("encode", encode, times, counts)
     print_guard("decode, order 0", [n for n in decode if n[3] == "order 0"], times, counts)
     print_guard("decode, orders 1 to 8", others, times, counts)

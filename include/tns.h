@@ -1,16 +1,18 @@
-/* LC3 temporal noise shaping: the three functions of libtns.a (x86-64), made by `rt staticlib tns`.
+/* LC3 temporal noise shaping: the five functions of libtns.a (x86-64), made by `rt staticlib tns`.
  *
  * Every call is answered, whatever numbers and list lengths are passed. A refused call leaves every list
  * as it was. What is asked of the caller is what C cannot check: a pointer is good for its length (and
- * not null, also at length 0) and aligned for its type, and no two lists of a call overlap. Calls share
- * nothing, so threads may call side by side. docs/CONTRACTS.md has the promises.
+ * not null, also at length 0) and aligned for its type, and no two lists of a call overlap: a spectrum
+ * is not also the output, nor a part of it. Calls share nothing, so threads may call side by side.
+ * docs/CONTRACTS.md has the promises.
  *
  * The caller answers for the float environment as well: a call is to be made in the default one, with
  * rounding to nearest, no flush-to-zero, no denormals-are-zero and all exceptions masked. Audio threads
- * are often run otherwise. There tns_decode can leave other lines, and tns_encode other lines, side
- * data, coefficients and bits; an exception that is not masked can end the process. Refusals and
- * tns_cost are whole numbers and stay the same. examples/float_environment.c guards a call in a few
- * lines; the Rust crate guards each of its calls.
+ * are often run otherwise. There tns_decode and tns_decode_restart can leave other lines,
+ * tns_decode_save other lines and states, and tns_encode other lines, side data, coefficients and bits;
+ * an exception that is not masked can end the process. Refusals and tns_cost are whole numbers and stay
+ * the same. examples/float_environment.c guards a call in a few lines; the Rust crate guards each of its
+ * calls.
  */
 #ifndef TNS_H
 #define TNS_H
@@ -23,7 +25,8 @@
 extern "C" {
 #endif
 
-/* Why a call was refused: the first of these that applies, by number. */
+/* Why a call was refused: the first of these that applies, by number. The numbers 9 to 15 belong to
+ * calls that are not in this header. */
 enum {
     TNS_ACCEPTED = 0,
     TNS_DURATION = 1,        /* neither 0 (10 ms) nor 1 (7.5 ms) */
@@ -33,7 +36,9 @@ enum {
     TNS_FILTER_COUNT = 5,    /* over 2 */
     TNS_ORDER = 6,           /* an order over 8: place 0 or 1 */
     TNS_INDEX = 7,           /* an index over 16: place 0 to 15 */
-    TNS_WEIGHTING = 8        /* over 1 */
+    TNS_WEIGHTING = 8,       /* over 1 */
+    TNS_LINE = 16,           /* below the row's first start, or over its last stop */
+    TNS_OUTPUT_LENGTH = 17   /* not the spectrum's */
 };
 
 typedef struct {
@@ -55,6 +60,34 @@ tns_answer tns_encode(uint8_t duration, uint8_t bandwidth, uint64_t bits, bool n
 tns_answer tns_decode(uint8_t duration, uint8_t bandwidth, uint8_t filters, const uint8_t *orders,
                       size_t orders_len, const uint8_t *indices, size_t indices_len, float *lines,
                       size_t lines_len);
+
+/* Decodes a spectrum, which stays as it is, into an output of the same length, where afterwards stands
+ * what tns_decode leaves in place. Writes the eight states of the lattice as they are before line n,
+ * from which tns_decode_restart can go on there. Refusals 1 to 7, 16 and 17; n may be any line from the
+ * row's first start to its last stop, both included. The bands of each row, start to stop (the line
+ * after the band's last), from bandwidth 0 to 4:
+ *
+ *     10 ms:  12-80, 12-160, 12-240, 12-160 and 160-320, 12-200 and 200-400
+ *     7.5 ms: 9-60, 9-120, 9-180, 9-120 and 120-240, 9-150 and 150-300
+ */
+tns_answer tns_decode_save(uint8_t duration, uint8_t bandwidth, uint8_t filters,
+                           const uint8_t *orders, size_t orders_len, const uint8_t *indices,
+                           size_t indices_len, const float *spectrum, size_t spectrum_len,
+                           float *output, size_t output_len, size_t n, float states[8]);
+
+/* Decodes a spectrum, which stays as it is, from line n on: the output's lines below n are not written.
+ * The lattice goes on from the states, each filter on what its band has from n on; lines of no band are
+ * copied. Refusals as tns_decode_save.
+ *
+ * The lines from n on are those of the whole spectrum decoded anew, if the states are those that
+ * tns_decode_save gave before the same n for a frame that agrees with this one on the spectrum's length,
+ * duration, bandwidth, filter count, every line below n, and the orders and indices of every filter
+ * whose band starts below n. Any other eight numbers are taken too, NaN and infinities among them, and
+ * the lattice runs on from them. examples/mend.c mends the upper half of a frame. */
+tns_answer tns_decode_restart(uint8_t duration, uint8_t bandwidth, uint8_t filters,
+                              const uint8_t *orders, size_t orders_len, const uint8_t *indices,
+                              size_t indices_len, const float *spectrum, size_t spectrum_len,
+                              float *output, size_t output_len, size_t n, const float states[8]);
 
 /* The bits of side data. Refusals 4 to 8. */
 tns_answer tns_cost(uint8_t weighting, uint8_t filters, const uint8_t *orders, size_t orders_len,

@@ -11,8 +11,8 @@ import struct
 
 FOLDER = pathlib.Path(__file__).resolve().parent.parent / "crates/replay/data"
 
-INDEX, COST, DECODE, ENCODE = range(4)
-CALLS = ["index", "cost", "decode", "encode"]
+INDEX, COST, DECODE, ENCODE, SAVE, RESTART = range(6)
+CALLS = ["index", "cost", "decode", "encode", "save", "restart"]
 
 # The call, duration, bandwidth, choice, filter count, the numbers of orders and
 # of indices; then the number of lines.
@@ -23,13 +23,18 @@ HEAD = "7BI"
 LENT_SIDE = bytes([0xA5] * 20)
 LENT_COEFFICIENTS = [0xA5A5A5A5] * 16
 
+# What a save call is lent for its states, likewise.
+LENT_STATES = (0xA5A5A5A5,) * 8
+
 NAN = 0x7FC00000
 
 
 @dataclasses.dataclass
 class Call:
     """What is asked. `choice` is the cost's weighting, or the encoder's
-    near-Nyquist flag. What a call does not take is 0 or empty."""
+    near-Nyquist flag. The lines of a save or a restart are the spectrum, `at` is
+    the line n, and the output and the states are what is lent. What a call does not
+    take is 0 or empty."""
 
     call: int
     duration: int = 0
@@ -40,12 +45,16 @@ class Call:
     indices: tuple = ()
     bits: int = 0
     lines: tuple = ()
+    at: int = 0
+    output: tuple = ()
+    states: tuple = ()
 
 
 @dataclasses.dataclass
 class Answer:
     """What is answered, and what is left of all that was lent. Side data and
-    coefficients are the encoder's alone."""
+    coefficients are the encoder's alone. A save and a restart leave states, and
+    their output in the place of the lines."""
 
     refusal: int = 0
     place: int = 0
@@ -53,7 +62,13 @@ class Answer:
     bits: int = 0
     side: bytes = b""
     coefficients: tuple = ()
+    states: tuple = ()
     lines: tuple = ()
+
+
+def has_output(call):
+    """Whether a call reads its lines and writes an output."""
+    return call.call in (SAVE, RESTART)
 
 
 def taken(call):
@@ -62,7 +77,11 @@ def taken(call):
         return struct.pack("<Q", call.bits)
     if call.call == INDEX:
         return b""
-    return struct.pack("<3s17s", bytes(call.orders), bytes(call.indices))
+    side = struct.pack("<3s17s", bytes(call.orders), bytes(call.indices))
+    if not has_output(call):
+        return side
+    m = len(call.output)
+    return side + struct.pack("<QI", call.at, m) + words(call.output) + words(call.states)
 
 
 def words(numbers):
@@ -72,7 +91,9 @@ def words(numbers):
 def to_bytes(call, answer):
     """One record."""
     orders, indices, n = len(call.orders), len(call.indices), len(call.lines)
-    assert orders <= 3 and indices <= 17 and n <= 401 and len(answer.lines) == n
+    written = call.output if has_output(call) else call.lines
+    assert orders <= 3 and indices <= 17 and max(n, len(written)) <= 401
+    assert len(answer.lines) == len(written) and len(answer.states) == len(call.states)
     numbers = (call.call, call.duration, call.bandwidth, call.choice, call.filters)
     return b"".join(
         [
@@ -82,6 +103,7 @@ def to_bytes(call, answer):
             words((answer.refusal, answer.place, answer.found, answer.bits)),
             words(answer.side),
             words(answer.coefficients),
+            words(answer.states),
             words(answer.lines),
         ]
     )
@@ -105,9 +127,15 @@ def records(data):
         elif call.call != INDEX:
             call.orders = take("3B")[:order_count]
             call.indices = take("17B")[:index_count]
+        if has_output(call):
+            call.at, n = take("QI")
+            call.output = take(f"{n}I")
+            call.states = take("8I")
         answer = Answer(*take("4I"))
         if call.call == ENCODE:
             answer.side = bytes(take("20I"))
             answer.coefficients = take("16I")
+        if has_output(call):
+            answer.states = take("8I")
         answer.lines = take(f"{n}I")
         yield call, answer

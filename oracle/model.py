@@ -1,7 +1,8 @@
 #!/usr/bin/env python3
 """A model of document 01, to be read beside it: its rows, refusals, analysis,
-quantization, cost and lattices, one function for each rule. It is written from
-document 01 and shares nothing with the port or the harness.
+quantization, cost and lattices, one function for each rule, with what document 02
+adds to the decoder (C-14 and C-22). It is written from the documents and shares
+nothing with the port or the harness.
 
     oracle/model.py [--src DIR] LIST..
 
@@ -90,6 +91,14 @@ def pattern_of(x):
     return lists.NAN if math.isnan(x) else struct.unpack("<I", struct.pack("<f", x))[0]
 
 
+def floats_of(patterns):
+    return list(map(float_of, patterns))
+
+
+def patterns_of(floats):
+    return tuple(map(pattern_of, floats))
+
+
 # Band rows: for each duration and bandwidth the bands, each as its start, its two
 # cuts and its stop.
 
@@ -144,6 +153,14 @@ def refuse_side_data(call):
 def refuse_weighting(call):
     """Refusal 8."""
     return Answer(8) if call.choice > 1 else None
+
+
+def refuse_restart(call):
+    """Refusals 16 and 17 (C-22), of a call that has a row."""
+    bands = ROWS[call.duration][call.bandwidth]
+    if not bands[0][0] <= call.at <= bands[-1][-1]:
+        return Answer(16)
+    return Answer(17) if len(call.output) != len(call.lines) else None
 
 
 # E's and T's numbers
@@ -332,16 +349,18 @@ def decode_line(coefficients, state, t):
     return t
 
 
-def filtered(lattice, filters, lines):
-    """The lines after filters in turn, with the state carried. A filter is its
+def filter_part(lattice, filters, lines, first, stop, state):
+    """Filters the lines from the first to the stop, in place: filters in turn, each
+    on what its band has of them, with the state carried. A filter is its
     coefficients, as many as its order, and its band."""
-    lines = list(lines)
-    state = [0.0] * 8
     for coefficients, band in filters:
         if coefficients:
-            for place in range(band[0], band[-1]):
+            for place in range(max(first, band[0]), min(stop, band[-1])):
                 lines[place] = lattice(coefficients, state, lines[place])
-    return lines
+
+
+def filter_whole(lattice, filters, lines):
+    filter_part(lattice, filters, lines, 0, len(lines), [0.0] * 8)
 
 
 # The calls
@@ -358,22 +377,60 @@ def cost_call(tables, call, across):
     answer = refuse_side_data(call) or refuse_weighting(call)
     if answer is None:
         answer = Answer(bits=cost_of(tables, call.choice, call.filters, call.orders, call.indices))
-    answer.lines = left_alone(call)
+    answer.lines = left_alone(call.lines)
     return answer, []
 
 
 def decode_call(tables, call, across):
     answer = refuse_spectrum(call) or refuse_side_data(call)
     if answer is not None:
-        answer.lines = left_alone(call)
+        answer.lines = left_alone(call.lines)
         return answer, []
-    # Index 0 is a coefficient like any other (C-14). Filters without a band do not act.
-    filters = [
+    lines = floats_of(call.lines)
+    filter_whole(decode_line, decoder_filters(call), lines)
+    return Answer(lines=patterns_of(lines)), []
+
+
+def save_call(tables, call, across):
+    """The whole frame into the output, in two parts; the states are those between
+    them."""
+    answer = refuse_output_call(call)
+    if answer is not None:
+        return answer, []
+    filters, lines, state = decoder_filters(call), floats_of(call.lines), [0.0] * 8
+    filter_part(decode_line, filters, lines, 0, call.at, state)
+    states = patterns_of(state)
+    filter_part(decode_line, filters, lines, call.at, len(lines), state)
+    return Answer(states=states, lines=patterns_of(lines)), []
+
+
+def restart_call(tables, call, across):
+    """The second part alone, from the states that are lent. Below it the output stays
+    as it was."""
+    answer = refuse_output_call(call)
+    if answer is not None:
+        return answer, []
+    filters, lines, state = decoder_filters(call), floats_of(call.lines), floats_of(call.states)
+    filter_part(decode_line, filters, lines, call.at, len(lines), state)
+    output = left_alone(call.output[: call.at]) + patterns_of(lines[call.at :])
+    return Answer(states=left_alone(call.states), lines=output), []
+
+
+def refuse_output_call(call):
+    """The answer of a save or a restart that is refused, which writes nothing."""
+    answer = refuse_spectrum(call) or refuse_side_data(call) or refuse_restart(call)
+    if answer is not None:
+        answer.states, answer.lines = left_alone(call.states), left_alone(call.output)
+    return answer
+
+
+def decoder_filters(call):
+    """The filters of a decoder's call. Index 0 is a coefficient like any other (C-14).
+    Filters without a band do not act."""
+    return [
         ([coefficient_of(i) for i in used(call.orders, call.indices, f)], band)
         for f, band in enumerate(ROWS[call.duration][call.bandwidth][: call.filters])
     ]
-    lines = filtered(decode_line, filters, map(float_of, call.lines))
-    return Answer(lines=tuple(map(pattern_of, lines))), []
 
 
 def encode_call(tables, call, across):
@@ -381,9 +438,9 @@ def encode_call(tables, call, across):
     if answer is not None:
         answer.side = lists.LENT_SIDE
         answer.coefficients = tuple(lists.LENT_COEFFICIENTS)
-        answer.lines = left_alone(call)
+        answer.lines = left_alone(call.lines)
         return answer, []
-    lines = list(map(float_of, call.lines))
+    lines = floats_of(call.lines)
     bands = ROWS[call.duration][call.bandwidth]
     weighting = 1 if call.bits < WEIGHTING_LIMIT[call.duration] else 0
     found = [reflections(tables, band, lines, weighting, call.choice != 0) for band in bands]
@@ -393,24 +450,25 @@ def encode_call(tables, call, across):
     coefficients = [coefficient_of(index) for index in indices]
     orders = [order_of(indices[:8]), order_of(indices[8:])]
     filters = [(used(orders, coefficients, f), band) for f, band in enumerate(bands)]
+    filter_whole(encode_line, filters, lines)
     answer = Answer(
         bits=cost_of(tables, weighting, len(bands), orders, indices),
         side=bytes([weighting, len(bands), *orders, *indices]),
-        coefficients=tuple(map(pattern_of, coefficients)),
-        lines=tuple(map(pattern_of, filtered(encode_line, filters, lines))),
+        coefficients=patterns_of(coefficients),
+        lines=patterns_of(lines),
     )
     return answer, unquantized
 
 
-def left_alone(call):
-    """The lines as they came, but for the bits of a NaN."""
-    return tuple(pattern_of(float_of(line)) for line in call.lines)
+def left_alone(patterns):
+    """Lines or states as they came, but for the bits of a NaN."""
+    return patterns_of(floats_of(patterns))
 
 
 def answered(tables, call, across=False):
     """Document 01's answer to a call, and the f32s that it gave an index to."""
-    rule = [index_call, cost_call, decode_call, encode_call][call.call]
-    return rule(tables, call, across)
+    rules = [index_call, cost_call, decode_call, encode_call, save_call, restart_call]
+    return rules[call.call](tables, call, across)
 
 
 def work_again(tables, path):

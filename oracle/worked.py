@@ -1,25 +1,28 @@
 #!/usr/bin/env python3
-"""Document 01's worked cases, each with a name: the limits of every number, every
-refusal, refusals that meet, silence, and its table of marked cases. The answers
-are the model's (model.py).
+"""The documents' worked cases, each with a name: the limits of every number, every
+refusal, refusals that meet, silence, frames saved and mended (C-22), and document
+01's table of marked cases. The answers are the model's (model.py).
 
-    oracle/worked.py [--src DIR] --print     a line for each case and its answer
-    oracle/worked.py [--src DIR] --write     writes the list crates/replay/data/worked
-    oracle/worked.py [--src DIR] --check     compares that list with the model
+    oracle/worked.py [--src DIR] --print           a line for each case and its answer
+    oracle/worked.py [--src DIR] --write [FILE]    writes the list crates/replay/data/worked
+    oracle/worked.py [--src DIR] --check           compares that list with the model
 
-It fails if a case differs, if a marked case has another result than document 01
-states, or if a case leans on the last digits of the arcsine.
+With a FILE the list is written there instead. It fails if a case differs, if a marked
+case has another result than document 01 states, if a mended frame breaks the promise
+of C-22, or if a case leans on the last digits of the arcsine.
 
 Assumes Python 3 with its standard library.
 """
 
+import dataclasses
 import math
+import pathlib
 import sys
 
 import lists
 import model
-from lists import COST, DECODE, ENCODE, INDEX, Call
-from model import f32, mul, pattern_of
+from lists import COST, DECODE, ENCODE, INDEX, RESTART, SAVE, Call
+from model import f32, mul, pattern_of, patterns_of
 
 LIST = lists.FOLDER / "worked"
 NAMES = ["10 ms", "7.5 ms"]
@@ -203,6 +206,217 @@ def index_0_cases():
     yield "index 0 of a filter without a band", zeros_at(1, 8, every, 2, 0)
 
 
+# Frames saved before a line n, mended from n on, and decoded again from there (C-22)
+
+
+def lent_output(count):
+    """No line of it is one of a spectrum."""
+    return patterns_of(-i - 1 for i in range(count))
+
+
+def save(frame, at, count=None):
+    """A decode call's frame saved before a line, with an output as long as the
+    spectrum or of so many lines."""
+    output = lent_output(len(frame.lines) if count is None else count)
+    return dataclasses.replace(frame, call=SAVE, at=at, output=output, states=lists.LENT_STATES)
+
+
+def restart(frame, at, states, count=None):
+    """A frame decoded from a line on, from states before it."""
+    of_save = save(frame, at, count)
+    return dataclasses.replace(of_save, call=RESTART, states=patterns_of(states))
+
+
+def states_before(frame, at):
+    """The states that the model saves."""
+    answer, _ = model.answered(None, save(frame, at))
+    return tuple(model.floats_of(answer.states))
+
+
+def mended(old, at, lines=True, filters=True):
+    """A frame with other lines from a line on, and other filters where their band does
+    not start below it."""
+    bands = model.ROWS[old.duration][old.bandwidth]
+    new = list(old.lines[:at]) + [pattern_of(1000 - i) for i in range(at, len(old.lines))]
+    orders, indices = list(old.orders), list(old.indices)
+    for f in range(2):
+        if f >= len(bands) or bands[f][0] >= at:
+            orders[f] = (orders[f] + 5) % 9
+            indices[8 * f : 8 * f + 8] = [16 - index for index in indices[8 * f : 8 * f + 8]]
+    return dataclasses.replace(
+        old,
+        lines=tuple(new) if lines else old.lines,
+        orders=tuple(orders) if filters else old.orders,
+        indices=tuple(indices) if filters else old.indices,
+    )
+
+
+# All indices but 2, each at one place; 0 and 16 among them.
+INDICES = tuple((3 * place + 5) % 17 for place in range(16))
+
+# Filter counts and orders, taken in turn.
+FILTERS = [
+    (2, (8, 8)),
+    (2, (0, 8)),
+    (1, (8, 8)),
+    (2, (8, 0)),
+    (2, (3, 5)),
+    (0, (8, 8)),
+    (2, (1, 2)),
+]
+
+
+def lines_of_row(bands):
+    """The edges of a row's bands, and a line inside each band."""
+    for band in bands:
+        yield band[0]
+        yield (band[0] + band[-1]) // 2
+    yield bands[-1][-1]
+
+
+def mended_rows():
+    """Of every row, for each such line: the old frame, the new one, the line."""
+    turn = 0
+    for duration, rows in enumerate(model.ROWS):
+        for bandwidth, bands in enumerate(rows):
+            for at in lines_of_row(bands):
+                filters, orders = FILTERS[turn % len(FILTERS)]
+                turn += 1
+                old = decode(duration, bandwidth, filters, orders, INDICES, bands[-1][-1])
+                name = f"{NAMES[duration]} bandwidth {bandwidth}, line {at}"
+                yield name, old, mended(old, at), at
+
+
+def mended_at_second():
+    """At the second band's start: what may change there, and what carries in. 7.5 ms,
+    bandwidth 3, whose second band starts at line 120."""
+
+    def frame(filters, *orders):
+        return decode(1, 3, filters, orders, INDICES, 240)
+
+    def other_second(old, order):
+        """Another second filter, of some order, on the same lines."""
+        new = mended(old, 120, lines=False)
+        return dataclasses.replace(new, orders=(old.orders[0], order))
+
+    old = frame(2, 8, 8)
+    yield "other lines", old, mended(old, 120, filters=False), 120
+    for order in [8, 1, 0]:
+        yield f"the second filter of order {order}", old, other_second(old, order), 120
+    old = frame(2, 8, 0)
+    yield "the second filter no longer of order 0", old, other_second(old, 8), 120
+    old = frame(1, 8, 8)
+    yield "a second filter that is not counted", old, other_second(old, 3), 120
+
+
+def mended_beyond():
+    """With lines beyond the last stop, which is 60, and lines that are not numbers."""
+    beyond = decode(1, 0, 2, (8, 8), INDICES, 70)
+    yield "70 lines, line 34", beyond, mended(beyond, 34), 34
+    longest = decode(1, 0, 1, (5, 0), INDICES, 300)
+    yield "300 lines, line 60", longest, mended(longest, 60), 60
+    for name, stray in [("a NaN", math.nan), ("an infinity", math.inf)]:
+        lines = list(beyond.lines)
+        lines[33] = lines[65] = pattern_of(stray)
+        strange = dataclasses.replace(beyond, lines=tuple(lines))
+        new = dataclasses.replace(mended(strange, 34), lines=strange.lines)
+        yield f"{name} right below line 34 and beyond the last stop", strange, new, 34
+
+
+def mended_frames():
+    yield from mended_rows()
+    for name, *frames in mended_at_second():
+        yield f"the second band's start, {name}", *frames
+    for name, *frames in mended_beyond():
+        yield f"7.5 ms bandwidth 0, {name}", *frames
+
+
+def filters_of(frame):
+    return f"filters {frame.filters}, orders {frame.orders[0]} {frame.orders[1]}"
+
+
+def mended_cases():
+    """Each old frame saved, once for all that is made of it, and each new one decoded
+    from the line on."""
+    last = None
+    for name, old, new, at in mended_frames():
+        saved = save(old, at)
+        if saved != last:
+            yield f"{name}, {filters_of(old)}", saved
+        yield f"{name}, {filters_of(new)}", restart(new, at, states_before(old, at))
+        last = saved
+
+
+def check_mended(tables):
+    """Whether the model keeps the promise of C-22: a saved frame is the decoded one,
+    and what is left from the line on is a fresh run of the new frame."""
+    good = True
+    for name, old, new, at in mended_frames():
+        saved, _ = model.answered(tables, save(old, at))
+        again, _ = model.answered(tables, restart(new, at, states_before(old, at)))
+        of_old, of_new = [model.answered(tables, frame)[0].lines for frame in (old, new)]
+        if saved.lines != of_old or again.lines[at:] != of_new[at:]:
+            print(f"worked: {name}: the model breaks the promise of a restart")
+            good = False
+    return good
+
+
+# Restarts from any states, and refused ones: 7.5 ms, bandwidth 0, whose band is 9 to 60
+
+
+def small(filters=2, orders=(8, 8), indices=INDICES, count=60, duration=1, bandwidth=0):
+    return decode(duration, bandwidth, filters, orders, indices, count)
+
+
+def any_states_cases():
+    zeros = (0.0,) * 8
+    for name, states in [
+        ("all 0", zeros),
+        ("all -0", (-0.0,) * 8),
+        ("NaN in the first", (math.nan,) + zeros[1:]),
+        ("NaN in the last", zeros[:7] + (math.nan,)),
+        ("both infinities", (-math.inf, math.inf) * 4),
+        ("every kind", (math.nan, math.inf, -math.inf, 0.0, -0.0, 2**-149, -(2.0**127), 1.5)),
+    ]:
+        yield f"states: {name}", restart(small(), 34, states)
+    last = zeros[:7] + (math.nan,)
+    yield "states: NaN in one that order 7 does not use", restart(small(1, (7, 0)), 34, last)
+    yield "states: NaN where no filter is counted", restart(small(0), 34, (math.nan,) * 8)
+    yield "states: NaN at the last stop", restart(small(), 60, (math.nan,) * 8)
+    silent = dataclasses.replace(small(), lines=(pattern_of(-0.0),) * 60)
+    for name, zero in [("0", 0.0), ("-0", -0.0)]:
+        yield f"states: all {name}, on lines of -0", restart(silent, 34, (zero,) * 8)
+
+
+def refused_frames():
+    """Frames, lines and lengths of the output of calls that are refused."""
+    bad = (17,) + INDICES[1:]
+    yield "duration 2", small(duration=2), 34, 60
+    yield "bandwidth 5", small(bandwidth=5), 34, 60
+    yield "59 lines", small(count=59), 34, 59
+    yield "one order", small(orders=(8,)), 34, 60
+    yield "filter count 3", small(3), 34, 60
+    yield "order 9", small(orders=(8, 9)), 34, 60
+    yield "index 17", small(indices=INDICES[:15] + (17,)), 34, 60
+    yield "below the first start", small(), 8, 60
+    yield "over the last stop", small(), 61, 60
+    yield "line 2^64 - 1", small(), 2**64 - 1, 60
+    yield "line 2^32 + 34", small(), 2**32 + 34, 60
+    yield "an output one shorter", small(), 34, 59
+    yield "an output one longer", small(), 34, 61
+    yield "no output", small(), 34, 0
+    yield "7 before 16", small(indices=bad), 61, 60
+    yield "7 before 17", small(indices=bad), 34, 59
+    yield "16 before 17", small(), 8, 61
+    yield "7 before 16 and 17", small(indices=bad), 8, 59
+
+
+def refused_cases():
+    for name, frame, at, count in refused_frames():
+        yield name, save(frame, at, count)
+        yield name, restart(frame, at, (1.5,) * 8, count)
+
+
 # Encode cases
 
 
@@ -293,6 +507,8 @@ def cases():
         yield name, call
     for some in [index_cases, cost_cases, decode_cases, index_0_cases, encode_cases]:
         yield from some()
+    for some in [mended_cases, any_states_cases, refused_cases]:
+        yield from some()
 
 
 def said(call, answer):
@@ -303,29 +519,35 @@ def said(call, answer):
             words += f" at {answer.place}, found {answer.found}"
     elif call.call == INDEX:
         return f"index {answer.bits}, coefficient {model.float_of(answer.lines[0])!r}"
+    elif call.call in (DECODE, SAVE, RESTART):
+        words = {DECODE: "decoded", SAVE: "saved", RESTART: "restarted"}[call.call]
     else:
-        words = "decoded" if call.call == DECODE else f"{answer.bits} bits"
+        words = f"{answer.bits} bits"
     if call.call == ENCODE and not answer.refusal:
         weighting, filters, first, second, *indices = answer.side
         nonzero = sum(pattern != 0 for pattern in answer.coefficients)
         words += f", weighting {weighting}, filters {filters}, orders {first} {second}"
         words += f", indices {' '.join(map(str, indices))}, coefficients {nonzero}"
+    if call.call == SAVE and not answer.refusal:
+        words += f", states {' '.join(f'{x:.6g}' for x in model.floats_of(answer.states))}"
     if call.call == COST:
         return words
-    changed = [i for i, pair in enumerate(zip(call.lines, answer.lines)) if pair[0] != pair[1]]
+    before = call.output if lists.has_output(call) else call.lines
+    changed = [i for i, pair in enumerate(zip(before, answer.lines)) if pair[0] != pair[1]]
     if not changed:
         return words + ", unchanged"
     return words + f", lines {changed[0]} to {changed[-1]} changed"
 
 
 def main():
-    arguments = model.parser("document 01's worked cases")
+    arguments = model.parser("the documents' worked cases")
     work = arguments.add_mutually_exclusive_group(required=True)
-    for word in ["print", "write", "check"]:
+    for word in ["print", "check"]:
         work.add_argument(f"--{word}", action="store_true")
+    work.add_argument("--write", nargs="?", const=LIST, type=pathlib.Path, metavar="FILE")
     given = arguments.parse_args()
     tables = model.Tables(given.src)
-    good = check_marked(tables)
+    good = check_marked(tables) and check_mended(tables)
     written = b""
     count = 0
     for name, call in cases():
@@ -338,7 +560,7 @@ def main():
         written += lists.to_bytes(call, answer)
         count += 1
     if given.write and good:
-        LIST.write_bytes(written)
+        given.write.write_bytes(written)
     if given.check and LIST.read_bytes() != written:
         print(f"worked: {LIST.name} is not what the model gives")
         good = False

@@ -5,7 +5,7 @@
 //! What no word needs is seen in a build with every word: the others leave parts
 //! of the shared rooms unused. A word's own folder has nothing to leave.
 #![cfg_attr(
-    not(all(feature = "decode", feature = "error", feature = "lc3")),
+    not(all(feature = "decode", feature = "error", feature = "speed")),
     allow(dead_code, unused_imports)
 )]
 
@@ -15,7 +15,12 @@ mod draw;
 #[cfg(feature = "lc3")]
 mod liblc3;
 mod original;
-#[cfg(any(feature = "decode", feature = "encode", feature = "lc3"))]
+#[cfg(any(
+    feature = "decode",
+    feature = "restart",
+    feature = "encode",
+    feature = "lc3"
+))]
 mod port;
 #[warn(dead_code, unused_imports)]
 mod words;

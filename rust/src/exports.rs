@@ -1,4 +1,4 @@
-//! The library's three functions as C sees them. The contracts of these functions are proved; that the
+//! The library's five functions as C sees them. The contracts of these functions are proved; that the
 //! shapes here are theirs is for a reader to see in `crates/tns/src/lib.rt`.
 
 /// What a call answers: refusal 0 says that it is accepted.
@@ -32,6 +32,36 @@ extern "C" {
         indices_len: usize,
         lines: *mut f32,
         lines_len: usize,
+    ) -> Answer;
+    pub fn tns_decode_save(
+        duration: u8,
+        bandwidth: u8,
+        filters: u8,
+        orders: *const u8,
+        orders_len: usize,
+        indices: *const u8,
+        indices_len: usize,
+        spectrum: *const f32,
+        spectrum_len: usize,
+        output: *mut f32,
+        output_len: usize,
+        n: usize,
+        states: *mut [f32; 8],
+    ) -> Answer;
+    pub fn tns_decode_restart(
+        duration: u8,
+        bandwidth: u8,
+        filters: u8,
+        orders: *const u8,
+        orders_len: usize,
+        indices: *const u8,
+        indices_len: usize,
+        spectrum: *const f32,
+        spectrum_len: usize,
+        output: *mut f32,
+        output_len: usize,
+        n: usize,
+        states: *const [f32; 8],
     ) -> Answer;
     pub fn tns_cost(
         weighting: u8,

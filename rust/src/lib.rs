@@ -19,6 +19,9 @@
 //! # Ok::<(), Refusal>(())
 //! ```
 //!
+//! When the upper part of a frame changes, [`decode_restart`] decodes that part alone, from what
+//! [`decode_save`] has saved.
+//!
 //! A call may be made in any float environment, as from an audio thread with flush-to-zero and
 //! denormals-are-zero set: it works in the default one, and the thread has its own again afterwards.
 //!
@@ -33,9 +36,11 @@ pub mod encoder;
 mod exports;
 mod float;
 mod refusal;
+mod restart;
 mod sys;
 
 pub use refusal::Refusal;
+pub use restart::{decode_restart, decode_save, Saved};
 
 /// A frame's duration.
 #[derive(Clone, Copy, Debug, PartialEq, Eq)]

@@ -32,6 +32,10 @@ pub enum Refusal {
     },
     /// 8: the weighting is over 1.
     Weighting,
+    /// 16: the line is below the first band's start or over the last band's stop.
+    Line,
+    /// 17: the output has another length than the spectrum.
+    OutputLength,
 }
 
 impl Refusal {
@@ -46,10 +50,13 @@ impl Refusal {
             Refusal::Order { .. } => 6,
             Refusal::Index { .. } => 7,
             Refusal::Weighting => 8,
+            Refusal::Line => 16,
+            Refusal::OutputLength => 17,
         }
     }
 
-    /// The library's numbers for a refused call, 1 to 8.
+    /// The library's numbers for a refused call: 1 to 8, 16 and 17. Its five functions give no other;
+    /// one would be taken for 8.
     pub(crate) fn of(number: u16, place: u16, found: u16) -> Self {
         match number {
             1 => Refusal::Duration,
@@ -59,6 +66,8 @@ impl Refusal {
             5 => Refusal::FilterCount,
             6 => Refusal::Order { place, found },
             7 => Refusal::Index { place, found },
+            16 => Refusal::Line,
+            17 => Refusal::OutputLength,
             _ => Refusal::Weighting,
         }
     }
@@ -79,6 +88,8 @@ impl fmt::Display for Refusal {
                 write!(f, "index {found} at place {place} is over 16")
             }
             Refusal::Weighting => f.write_str("the weighting is over 1"),
+            Refusal::Line => f.write_str("the line is below the first start or over the last stop"),
+            Refusal::OutputLength => f.write_str("the output has another length than the spectrum"),
         }
     }
 }

@@ -1,9 +1,11 @@
-//! The only calls of the library's three functions. All three are called in the default float
-//! environment (`float`), so that nobody has to know which of them compute with floats. The two short
-//! calls are inlined: handing nine arguments on would take longer than a decoder's call without a
-//! filter.
+//! The only calls of the library's five functions. All five are called in the default float
+//! environment (`float`), so that nobody has to know which of them compute with floats. All but the
+//! encoder's are inlined: handing nine arguments on would take longer than a decoder's call without a
+//! filter, and those that save and restart have more.
 
-use crate::exports::{tns_cost, tns_decode, tns_encode, Answer};
+use crate::exports::{
+    tns_cost, tns_decode, tns_decode_restart, tns_decode_save, tns_encode, Answer,
+};
 use crate::{float, Encoded, Refusal, SideData};
 
 impl Answer {
@@ -82,6 +84,76 @@ pub fn decode(
             indices.len(),
             lines.as_mut_ptr(),
             lines.len(),
+        )
+    });
+    answer.accepted()
+}
+
+#[inline]
+#[expect(clippy::too_many_arguments, reason = "a frame has six")]
+pub fn decode_save(
+    duration: u8,
+    bandwidth: u8,
+    filters: u8,
+    orders: &[u8],
+    indices: &[u8],
+    spectrum: &[f32],
+    output: &mut [f32],
+    line: usize,
+) -> Result<[f32; 8], Refusal> {
+    let mut states = [0.0; 8];
+    let to_states = &mut states;
+    // Sound as above.
+    let answer = float::in_default(move || unsafe {
+        tns_decode_save(
+            duration,
+            bandwidth,
+            filters,
+            orders.as_ptr(),
+            orders.len(),
+            indices.as_ptr(),
+            indices.len(),
+            spectrum.as_ptr(),
+            spectrum.len(),
+            output.as_mut_ptr(),
+            output.len(),
+            line,
+            to_states,
+        )
+    });
+    answer.accepted()?;
+    Ok(states)
+}
+
+#[inline]
+#[expect(clippy::too_many_arguments, reason = "a frame has six")]
+pub fn decode_restart(
+    duration: u8,
+    bandwidth: u8,
+    filters: u8,
+    orders: &[u8],
+    indices: &[u8],
+    spectrum: &[f32],
+    output: &mut [f32],
+    line: usize,
+    states: &[f32; 8],
+) -> Result<(), Refusal> {
+    // Sound as above.
+    let answer = float::in_default(move || unsafe {
+        tns_decode_restart(
+            duration,
+            bandwidth,
+            filters,
+            orders.as_ptr(),
+            orders.len(),
+            indices.as_ptr(),
+            indices.len(),
+            spectrum.as_ptr(),
+            spectrum.len(),
+            output.as_mut_ptr(),
+            output.len(),
+            line,
+            states,
         )
     });
     answer.accepted()

@@ -1,116 +1,16 @@
-//! The library across the boundary: the lists of `crates/replay/data` (their form stands in
-//! `oracle/README.md`), refusals, buffers that a refused call leaves alone, empty slices, threads.
+//! The library across the boundary: the lists of `crates/replay/data`, refusals, buffers that a refused
+//! call leaves alone, empty slices, threads.
 
+mod common;
+
+use common::{bits_of, same, List, Record, BANDWIDTHS, DURATIONS};
 use gillsextant::decoder::temporal_noise_shaping::apply_temporal_noise_shaping;
 use gillsextant::encoder::temporal_noise_shaping::TemporalNoiseShaping;
-use gillsextant::{cost, decode, encode, Bandwidth, Duration, Refusal};
-
-const DURATIONS: [Duration; 2] = [Duration::TenMs, Duration::SevenPointFiveMs];
-const BANDWIDTHS: [Bandwidth; 5] = [
-    Bandwidth::NarrowBand,
-    Bandwidth::WideBand,
-    Bandwidth::SemiSuperWideBand,
-    Bandwidth::SuperWideBand,
-    Bandwidth::FullBand,
-];
-
-/// A list, taken from its front.
-struct List(Vec<u8>, usize);
-
-impl List {
-    fn of(name: &str) -> Self {
-        let path = format!(
-            "{}/../crates/replay/data/{name}",
-            env!("CARGO_MANIFEST_DIR")
-        );
-        List(
-            std::fs::read(path).expect("the list is in the repository"),
-            0,
-        )
-    }
-    fn more(&self) -> bool {
-        self.1 < self.0.len()
-    }
-    fn take(&mut self, n: usize) -> &[u8] {
-        self.1 += n;
-        &self.0[self.1 - n..self.1]
-    }
-    fn number(&mut self, n: usize) -> u64 {
-        self.take(n)
-            .iter()
-            .rev()
-            .fold(0, |sum, b| 256 * sum + u64::from(*b))
-    }
-    fn floats(&mut self, n: usize) -> Vec<f32> {
-        (0..n)
-            .map(|_| f32::from_bits(self.number(4) as u32))
-            .collect()
-    }
-}
-
-/// What a call is given, and what it must answer and leave.
-struct Record {
-    call: u8,
-    duration: u8,
-    bandwidth: u8,
-    /// The cost's weighting, or the encoder's near-Nyquist flag.
-    choice: u8,
-    filters: u8,
-    orders: Vec<u8>,
-    indices: Vec<u8>,
-    bit_number: u64,
-    before: Vec<f32>,
-    answer: Result<u16, Refusal>,
-    /// Of encode records alone.
-    side: Vec<u8>,
-    coefficients: Vec<f32>,
-    after: Vec<f32>,
-}
+use gillsextant::{
+    cost, decode, decode_restart, decode_save, encode, Bandwidth, Duration, Refusal, Saved,
+};
 
 impl Record {
-    fn next(list: &mut List) -> Self {
-        let h: [u8; 7] = list.take(7).try_into().unwrap();
-        let (lists, encodes) = (h[0] == 1 || h[0] == 2, usize::from(h[0] == 3));
-        let n = list.number(4) as usize;
-        let before = list.floats(n);
-        let bit_number = list.number(8 * encodes);
-        let orders = list.take(3 * usize::from(lists)).to_vec();
-        let indices = list.take(17 * usize::from(lists)).to_vec();
-        let [refusal, place, found, bits] = [0; 4].map(|_| list.number(4) as u16);
-        let answer = match refusal {
-            0 => Ok(bits),
-            1 => Err(Refusal::Duration),
-            2 => Err(Refusal::Bandwidth),
-            3 => Err(Refusal::SpectrumLength),
-            4 => Err(Refusal::ListLength),
-            5 => Err(Refusal::FilterCount),
-            6 => Err(Refusal::Order { place, found }),
-            7 => Err(Refusal::Index { place, found }),
-            8 => Err(Refusal::Weighting),
-            _ => panic!("no refusal {refusal}"),
-        };
-        Record {
-            call: h[0],
-            duration: h[1],
-            bandwidth: h[2],
-            choice: h[3],
-            filters: h[4],
-            orders: orders[..h[5] as usize].to_vec(),
-            indices: indices[..h[6] as usize].to_vec(),
-            bit_number,
-            before,
-            answer,
-            side: (0..20 * encodes).map(|_| list.number(4) as u8).collect(),
-            coefficients: list.floats(16 * encodes),
-            after: list.floats(n),
-        }
-    }
-
-    /// The answer with nothing in place of the bits.
-    fn verdict(&self) -> Result<(), Refusal> {
-        self.answer.map(|_| ())
-    }
-
     fn costs(&self) {
         let found = cost(self.choice, self.filters, &self.orders, &self.indices);
         assert_eq!(found, self.answer);
@@ -186,6 +86,44 @@ impl Record {
         }
     }
 
+    fn saves(&self) {
+        let mut output = self.output.clone();
+        let found = decode_save(
+            DURATIONS[self.duration as usize],
+            BANDWIDTHS[self.bandwidth as usize],
+            self.filters,
+            &self.orders,
+            &self.indices,
+            &self.before,
+            &mut output,
+            self.line,
+        );
+        assert_eq!(found.map(|_| ()), self.verdict());
+        assert!(same(&output, &self.after));
+        // The states of a refused call can be seen by the exports alone: restart.rs.
+        if let Ok(saved) = found {
+            assert_eq!(saved.line(), self.line);
+            assert!(same(&saved.states(), &self.states_after));
+        }
+    }
+
+    fn restarts(&self) {
+        let states = self.states[..].try_into().expect("there are eight");
+        let mut output = self.output.clone();
+        let found = decode_restart(
+            DURATIONS[self.duration as usize],
+            BANDWIDTHS[self.bandwidth as usize],
+            self.filters,
+            &self.orders,
+            &self.indices,
+            &self.before,
+            &mut output,
+            &Saved::new(self.line, states),
+        );
+        assert_eq!(found, self.verdict());
+        assert!(same(&output, &self.after));
+    }
+
     /// Makes the call and compares, or says that Rust has no words for it: there is no call for
     /// the index rule, and no duration or bandwidth that does not exist.
     fn replayed(&self) -> bool {
@@ -194,19 +132,12 @@ impl Record {
             1 => self.costs(),
             2 if exists => self.decodes(),
             3 if exists => self.encodes(),
+            4 if exists => self.saves(),
+            5 if exists => self.restarts(),
             _ => return false,
         }
         true
     }
-}
-
-fn same(a: &[f32], b: &[f32]) -> bool {
-    let equal = |(x, y): (&f32, &f32)| x.to_bits() == y.to_bits() || x.is_nan() && y.is_nan();
-    a.len() == b.len() && a.iter().zip(b).all(equal)
-}
-
-fn bits_of(lines: &[f32]) -> Vec<u32> {
-    lines.iter().map(|x| x.to_bits()).collect()
 }
 
 /// Replays a list; how many of its records, and how many Rust has no words for. The record where
@@ -244,7 +175,7 @@ fn encoded_spectra_across_threads() {
 
 #[test]
 fn worked_cases() {
-    assert_eq!(replayed("worked"), (296, 37));
+    assert_eq!(replayed("worked"), (436, 41));
 }
 
 /// A refused decode call, which must leave the lines alone.

@@ -7,7 +7,9 @@
 
 use gillsextant::decoder::temporal_noise_shaping::apply_temporal_noise_shaping;
 use gillsextant::encoder::temporal_noise_shaping::TemporalNoiseShaping;
-use gillsextant::{cost, decode, encode, Bandwidth, Duration, Refusal};
+use gillsextant::{
+    cost, decode, decode_restart, decode_save, encode, Bandwidth, Duration, Refusal, Saved,
+};
 use std::arch::asm;
 
 // The fields of MXCSR. Of the default only the masks are set.
@@ -100,6 +102,8 @@ const LINES: usize = 160;
 const BITS: u64 = 320;
 const ORDERS: [u8; 2] = [8, 0];
 const INDICES: [u8; 16] = [11, 7, 10, 8, 9, 7, 9, 7, 8, 8, 8, 8, 8, 8, 8, 8];
+/// Where states are saved and the decoder restarted: inside the band, and before large lines overflow.
+const LINE: usize = 14;
 
 /// A call in an environment: what it did, and the word afterwards.
 type Call = fn(u32, &[f32]) -> (Outcome, u32);
@@ -155,6 +159,38 @@ fn by_apply(word: u32, lines: &[f32]) -> (Outcome, u32) {
     (Outcome::new([], &lines), after)
 }
 
+fn save_at(line: usize, lines: &[f32], output: &mut [f32]) -> Result<Saved, Refusal> {
+    decode_save(
+        DURATION, BANDWIDTH, 1, &ORDERS, &INDICES, lines, output, line,
+    )
+}
+
+fn restart(saved: &Saved, lines: &[f32], output: &mut [f32]) -> Result<(), Refusal> {
+    decode_restart(
+        DURATION, BANDWIDTH, 1, &ORDERS, &INDICES, lines, output, saved,
+    )
+}
+
+/// What is saved of lines in the default environment.
+fn saved(lines: &[f32]) -> Saved {
+    save_at(LINE, lines, &mut vec![0.0; lines.len()]).expect("the frame is accepted")
+}
+
+fn by_save(word: u32, lines: &[f32]) -> (Outcome, u32) {
+    let mut output = vec![0.0; lines.len()];
+    let (answer, after) = within(word, || save_at(LINE, lines, &mut output));
+    let saved = answer.expect("the frame is accepted");
+    (Outcome::new(bits_of(&saved.states()), &output), after)
+}
+
+fn by_restart(word: u32, lines: &[f32]) -> (Outcome, u32) {
+    let saved = saved(lines);
+    let mut output = vec![0.0; lines.len()];
+    let (answer, after) = within(word, || restart(&saved, lines, &mut output));
+    answer.expect("the frame is accepted");
+    (Outcome::new([], &output), after)
+}
+
 fn by_cost(word: u32, lines: &[f32]) -> (Outcome, u32) {
     let (answer, after) = within(word, || cost(0, 1, &ORDERS, &INDICES));
     let bits = answer.expect("the side data are accepted");
@@ -205,6 +241,62 @@ fn decode_orders_unguarded(orders: [u8; 2], word: u32, lines: &[f32]) -> (Outcom
     });
     let said = numbers(answer).map(u32::from);
     (Outcome::new(said, &lines), after)
+}
+
+fn save_unguarded(word: u32, lines: &[f32]) -> (Outcome, u32) {
+    save_at_unguarded(LINE, word, lines)
+}
+
+fn save_at_unguarded(line: usize, word: u32, lines: &[f32]) -> (Outcome, u32) {
+    let mut output = vec![0.0; lines.len()];
+    let mut states = [0.0; 8];
+    let (answer, after) = within(word, || unsafe {
+        unguarded::tns_decode_save(
+            CODES.0,
+            CODES.1,
+            1,
+            ORDERS.as_ptr(),
+            ORDERS.len(),
+            INDICES.as_ptr(),
+            INDICES.len(),
+            lines.as_ptr(),
+            lines.len(),
+            output.as_mut_ptr(),
+            output.len(),
+            line,
+            &mut states,
+        )
+    });
+    let said = numbers(answer).into_iter().map(u32::from);
+    (Outcome::new(said.chain(bits_of(&states)), &output), after)
+}
+
+fn restart_unguarded(word: u32, lines: &[f32]) -> (Outcome, u32) {
+    restart_at_unguarded(LINE, word, lines)
+}
+
+fn restart_at_unguarded(line: usize, word: u32, lines: &[f32]) -> (Outcome, u32) {
+    let mut output = vec![0.0; lines.len()];
+    let states = saved(lines).states();
+    let (answer, after) = within(word, || unsafe {
+        unguarded::tns_decode_restart(
+            CODES.0,
+            CODES.1,
+            1,
+            ORDERS.as_ptr(),
+            ORDERS.len(),
+            INDICES.as_ptr(),
+            INDICES.len(),
+            lines.as_ptr(),
+            lines.len(),
+            output.as_mut_ptr(),
+            output.len(),
+            line,
+            &states,
+        )
+    });
+    let said = numbers(answer).map(u32::from);
+    (Outcome::new(said, &output), after)
 }
 
 fn cost_unguarded(word: u32, orders: [u8; 2]) -> [u16; 4] {
@@ -295,6 +387,16 @@ fn decode_is_the_same() {
 }
 
 #[test]
+fn save_is_the_same() {
+    same_in_every_environment(by_save);
+}
+
+#[test]
+fn restart_is_the_same() {
+    same_in_every_environment(by_restart);
+}
+
+#[test]
 fn cost_is_the_same() {
     same_in_every_environment(by_cost);
 }
@@ -309,26 +411,35 @@ fn decode_by_the_other_name_is_the_same() {
     same_in_every_environment(by_apply);
 }
 
+/// The calls that compute with floats, without the guard.
+const UNGUARDED: [Call; 4] = [
+    encode_unguarded,
+    decode_unguarded,
+    save_unguarded,
+    restart_unguarded,
+];
+
 /// Without the guard every environment but the default changes lines.
 #[test]
 fn lines_hang_on_the_environment() {
     let spectra = spectra();
     for word in masked() {
-        for call in [encode_unguarded as Call, decode_unguarded] {
+        for call in UNGUARDED {
             let other = |x: &Vec<f32>| call(word, x).0.lines != call(DEFAULT, x).0.lines;
             assert_eq!(spectra.iter().any(other), word != DEFAULT, "{word:#06x}");
         }
     }
 }
 
-/// And the encoder's bits, side data and coefficients.
+/// And the encoder's bits, side data and coefficients, and the states that are saved.
 #[test]
-fn side_data_hang_on_the_environment() {
+fn side_data_and_states_hang_on_the_environment() {
     let spectra = spectra();
     for word in masked() {
-        let call = encode_unguarded;
-        let other = |x: &Vec<f32>| call(word, x).0.said != call(DEFAULT, x).0.said;
-        assert_eq!(spectra.iter().any(other), word != DEFAULT, "{word:#06x}");
+        for call in [encode_unguarded as Call, save_unguarded] {
+            let other = |x: &Vec<f32>| call(word, x).0.said != call(DEFAULT, x).0.said;
+            assert_eq!(spectra.iter().any(other), word != DEFAULT, "{word:#06x}");
+        }
     }
 }
 
@@ -336,7 +447,7 @@ fn side_data_hang_on_the_environment() {
 /// is known at which the library divides by zero.
 #[test]
 fn calls_raise_exceptions() {
-    for call in [encode_unguarded as Call, decode_unguarded] {
+    for call in UNGUARDED {
         let raised = |sum, lines: &Vec<f32>| sum | call(DEFAULT, lines).1 & FLAGS;
         let raised = spectra().iter().fold(0, raised);
         assert_eq!(raised | DIVIDE_BY_ZERO, FLAGS);
@@ -356,6 +467,11 @@ fn refusals_and_cost_are_the_same_unguarded() {
             let (refused, _) = encode_unguarded(word, short);
             assert_eq!(refused.said[..4], [3, 0, 0, 0]);
             assert_eq!(refused.lines, before[1..]);
+            for call in [save_at_unguarded, restart_at_unguarded] {
+                let (refused, _) = call(LINES + 1, word, &lines);
+                assert_eq!(refused.said[..4], [16, 0, 0, 0]);
+                assert_eq!(refused.lines, [0; LINES]);
+            }
             assert_eq!(cost_unguarded(word, [8, 9]), [6, 1, 9, 0]);
             assert_eq!(
                 cost_unguarded(word, ORDERS),
@@ -376,5 +492,11 @@ fn refusals_leave_the_environment() {
         assert_eq!((answer.err(), after), (Some(Refusal::SpectrumLength), word));
         let (answer, after) = within(word, || cost(2, 1, &ORDERS, &INDICES));
         assert_eq!((answer, after), (Err(Refusal::Weighting), word));
+        let (lines, mut output) = ([1.5; LINES], [0.0; LINES]);
+        let (answer, after) = within(word, || save_at(LINES + 1, &lines, &mut output));
+        assert_eq!((answer, after), (Err(Refusal::Line), word));
+        let saved = Saved::new(LINE, [0.0; 8]);
+        let (answer, after) = within(word, || restart(&saved, &lines, &mut output[1..]));
+        assert_eq!((answer, after), (Err(Refusal::OutputLength), word));
     }
 }

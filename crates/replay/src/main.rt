@@ -1,5 +1,5 @@
 // Replays lists of calls with the answers that they must have: the files that its arguments name. The
-// Rust's own answers stand in four of them (`oracle/run lists`), and those of a model of document 01
+// Rust's own answers stand in four of them (`oracle/run lists`), and those of a model of the documents
 // in the fifth (`oracle/worked.py`). All lists have one form, which `oracle/README.md` states. A call
 // goes to the functions that the library exports; the index rule, which it does not export, to the
 // two that have it.
@@ -11,6 +11,8 @@ use libc::STDOUT_FILENO;
 use tns::Answer;
 use tns::tns_cost;
 use tns::tns_decode;
+use tns::tns_decode_restart;
+use tns::tns_decode_save;
 use tns::tns_encode;
 use tns_index::coefficient_of;
 use tns_index::index_of;
@@ -127,6 +129,10 @@ fn coefficients_compared(list: i32, found: [f32; 16], earlier: bool) -> bool {
     lines_compared(list, &found, earlier)
 }
 
+fn states_compared(list: i32, found: [f32; 8], earlier: bool) -> bool {
+    lines_compared(list, &found, earlier)
+}
+
 fn answer_compared(list: i32, found: Answer) -> bool {
     let a = compared(list, found.refusal as u64, false);
     let b = compared(list, found.place as u64, a);
@@ -147,8 +153,8 @@ fn index_compared(list: i32) -> bool {
     line_compared(list, coefficient_of(index), a)
 }
 
-// The two words of a bit number, low word first.
-fn bit_number(list: i32) -> u64 {
+// The two words of a number of 64 bits, low word first: a bit number, or a line.
+fn two_words(list: i32) -> u64 {
     let low = given(list) as u64;
     low + 4294967296 * (given(list) as u64)
 }
@@ -166,7 +172,7 @@ struct Call {
 
 // An encode record. What the call may write to holds patterns, which a refusal must leave.
 fn encode_compared(list: i32, call: Call, lines: &mut [f32]) -> bool {
-    let bits = bit_number(list);
+    let bits = two_words(list);
     let lent = float_of(0xa5a5_a5a5);
     let mut side = [0xa5u8; 20];
     let mut coefficients = [lent; 16];
@@ -242,26 +248,118 @@ fn replayed(list: i32, call: Call, lines: &mut [f32]) -> bool {
     lines_compared(list, lines, a)
 }
 
+fn states_of(list: i32) -> [f32; 8] {
+    let mut states = [0.0f32; 8];
+    read_lines(list, &mut states);
+    states
+}
+
+// The answer to a save or restart record.
+fn line_answered(
+    call: Call,
+    orders: &[u8],
+    indices: &[u8],
+    spectrum: &[f32],
+    output: &mut [f32],
+    n: usize,
+    states: &mut [f32; 8],
+) -> Answer {
+    if call.kind == 4 {
+        return tns_decode_save(
+            call.duration,
+            call.bandwidth,
+            call.filters,
+            orders,
+            indices,
+            spectrum,
+            output,
+            n,
+            states,
+        );
+    }
+    tns_decode_restart(
+        call.duration,
+        call.bandwidth,
+        call.filters,
+        orders,
+        indices,
+        spectrum,
+        output,
+        n,
+        states,
+    )
+}
+
+// A save or restart record from its output on. The call is made with the record's orders and indices,
+// and all that it leaves is compared.
+fn output_compared(
+    list: i32,
+    call: Call,
+    orders: [u8; 3],
+    indices: [u8; 17],
+    spectrum: &[f32],
+    output: &mut [f32],
+    n: usize,
+) -> bool {
+    read_lines(list, output);
+    let mut states = states_of(list);
+    let o = least(call.orders as usize, 3);
+    let i = least(call.indices as usize, 17);
+    let answer = line_answered(
+        call,
+        &orders[0..o],
+        &indices[0..i],
+        spectrum,
+        output,
+        n,
+        &mut states,
+    );
+    let a = answer_compared(list, answer);
+    let b = states_compared(list, states, a);
+    lines_compared(list, output, b)
+}
+
+// A save or restart record: its lines are the spectrum, which stays as it is.
+fn line_replayed(list: i32, call: Call, spectrum: &mut [f32]) -> bool {
+    read_lines(list, spectrum);
+    let orders = orders_of(list);
+    let indices = indices_of(list);
+    let n = two_words(list) as usize;
+    let m = given(list) as usize;
+    if m > 401 {
+        return out_of_range();
+    }
+    let mut output = [0.0f32; 401];
+    output_compared(list, call, orders, indices, spectrum, &mut output[0..m], n)
+}
+
 // Whether a record has a call that is none, more of something than there is room for, or an index
 // call's lines other than one.
 fn beyond(call: Call, lines: usize) -> bool {
     if call.kind == 0 && lines != 1 {
         return true;
     }
-    call.kind > 3 || call.orders > 3 || call.indices > 17 || lines > 401
+    call.kind > 5 || call.orders > 3 || call.indices > 17 || lines > 401
+}
+
+fn out_of_range() -> bool {
+    put(b"a call or a count beyond its range");
+    true
 }
 
 fn called(list: i32, call: Call) -> bool {
     let n = given(list) as usize;
     if beyond(call, n) {
-        put(b"a call or a count beyond its range");
-        return true;
+        return out_of_range();
     }
     if call.kind == 0 {
         return index_compared(list);
     }
     let mut lines = [0.0f32; 401];
     let n = least(n, 401);
+    if call.kind > 3 {
+        return line_replayed(list, call, &mut lines[0..n]);
+    }
     replayed(list, call, &mut lines[0..n])
 }
 

@@ -1,11 +1,16 @@
--- Any two results that a contract allows for one input coincide: the laws of the lower crates, cited for each exported function. What
--- `tns_decode` and `tns_encode` leave in the lists that were lent coincides too.
+-- Any two results that a contract allows for one input coincide: the laws of the lower crates, cited for each exported function. What they leave in
+-- the lists that were lent coincides too.
 use mathlib.Core.List.{List}
 use Prim.Native.Nat.{ℕ}
 use lib.Ieee.{Float}
-use Rattle.tns_refusals.proofs.Determined.{Determined, DeterminedWith, itself}
+use Rattle.tns_refusals.proofs.Determined.{Determined, DeterminedWith, itself, of-parts}
+use Rattle.tns_decode.specs.Restart.{Lent, lentAtLine}
 use Rattle.tns.proofs.tns_decode.Kinds as tns-decode-kinds
 use Rattle.tns.proofs.tns_decode.Reads as tns-decode-reads
+use Rattle.tns.proofs.tns_decode_save.Kinds as tns-decode-save-kinds
+use Rattle.tns.proofs.tns_decode_save.Reads as tns-decode-save-reads
+use Rattle.tns.proofs.tns_decode_restart.Kinds as tns-decode-restart-kinds
+use Rattle.tns.proofs.tns_decode_restart.Reads as tns-decode-restart-reads
 use Rattle.tns.proofs.tns_encode.Kinds as tns-encode-kinds
 use Rattle.tns.proofs.tns_encode.Reads as tns-encode-reads
 use Rattle.tns.proofs.tns_cost.Kinds as tns-cost-kinds
@@ -13,6 +18,17 @@ use Rattle.tns.proofs.tns_cost.Reads as tns-cost-reads
 
 tns-decode : DeterminedWith 3 tns-decode-kinds.ps tns-decode-kinds.r tns-decode-reads.Post (List Float) (λ κs s. s .1 .1 .1 .1 .1 .0 .now)
 tns-decode κs a x y s t p q = (itself (p .0) (q .0), itself (p .1) (q .1))
+
+-- the output and the states
+tns-decode-save :
+    DeterminedWith 5 tns-decode-save-kinds.ps tns-decode-save-kinds.r tns-decode-save-reads.Post Lent
+    (λ κs s. lentAtLine (s .1 .1 .1 .1 .1 .1 .0 .now) (s .1 .1 .1 .1 .1 .1 .1 .1 .0 .now))
+tns-decode-save κs a x y s t p q = (itself (p .answer) (q .answer), of-parts lentAtLine (itself (p .output) (q .output)) (itself (p .states) (q .states)))
+
+tns-decode-restart :
+    DeterminedWith 5 tns-decode-restart-kinds.ps tns-decode-restart-kinds.r tns-decode-restart-reads.Post (List Float)
+    (λ κs s. s .1 .1 .1 .1 .1 .1 .0 .now)
+tns-decode-restart κs a x y s t p q = (itself (p .answer) (q .answer), itself (p .output) (q .output))
 
 tns-cost : Determined 2 tns-cost-kinds.ps tns-cost-kinds.r tns-cost-reads.Post
 tns-cost κs a x y s t p q = itself (p .0) (q .0)

@@ -1,3 +1,5 @@
--- What a reader has to believe of the exported functions: how a verdict of document 01 is told in four numbers, and what `tns_encode` leaves.
+-- What a reader has to believe of the exported functions: how a verdict of the documents is told in four numbers, and what `tns_encode`,
+-- `tns_decode_save` and `tns_decode_restart` leave.
 pub mod Answers
 pub mod Encoding
+pub mod AtLine

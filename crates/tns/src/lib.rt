@@ -1,10 +1,14 @@
 // The one crate whose functions C and Rust call. A slice passes as its pointer and length, and an
 // answer by value. Each function takes any numbers and lists and is its inner door: the answer's
 // numbers are those of the door's definition.
+use tns_calls::LineRefusal;
 use tns_cost::CostAnswer;
 use tns_cost::cost;
 use tns_decode::DecodeAnswer;
+use tns_decode::LineAnswer;
 use tns_decode::decode;
+use tns_decode::restart;
+use tns_decode::save;
 use tns_encode::EncodeAnswer;
 use tns_encode::encode;
 use tns_refusals::Refusal;
@@ -13,16 +17,19 @@ use tns_side::record_of;
 ghost use mathlib.Core.Path.{_≡_};
 ghost use Prim.Native.Nat.{_≤_};
 ghost use lib.ListN.{length};
-ghost use Rattle.tns_refusals.specs.Refusals.{accepted, refused, placeOf, noBits, itsBits, says};
+ghost use Rattle.tns_refusals.specs.Refusals.{placed, accepted, refused, placeOf, ofFault, noBits, itsBits, says};
 ghost use Rattle.tns_cost.specs.Cost.{costOf};
+ghost use Rattle.tns_calls.specs.Calls.{lineCallChecks, lineSays};
 ghost use Rattle.tns_decode.specs.Decoder.{decodeChecks, spectrumDecoded};
+ghost use Rattle.tns_decode.specs.Restart.{statesBefore, linesFrom, lineAnswerSays, lentAtLine};
 ghost use Rattle.tns_rows.specs.Durations.{durationOf};
 ghost use Rattle.tns_rows.specs.Bands.{rowOf};
 ghost use Rattle.tns_encode.specs.Encoder.{encodeVerdict};
 ghost use Rattle.tns.specs.Answers.{answerFor};
 ghost use Rattle.tns.specs.Encoding.{lent, TnsEncodes};
+ghost use Rattle.tns.specs.AtLine.{TnsSaves, TnsRestarts};
 
-// What a call answers. Refusal 0 says that it is accepted, and any other is document 01's number.
+// What a call answers. Refusal 0 says that it is accepted, and any other is the documents' number.
 // Place and found are those of refusals 6 and 7, and 0 else. Bits are those of an accepted cost, and
 // 0 else.
 #[repr(C)]
@@ -44,15 +51,44 @@ fn accepted(bits: u16) -> Answer
     }
 }
 
+// A refused call, by its numbers. It has no bits.
+fn told(refusal: u16, place: u16, found: u16) -> Answer
+    ensures { λ r. ⌜ r ≡ answerFor noBits (refused (placed refusal place found)) ⌝ }
+{
+    Answer {
+        refusal,
+        place,
+        found,
+        bits: 0,
+    }
+}
+
 fn refused(why: Refusal) -> Answer
     requires { ⌜ placeOf (says why) ≤ 15 ⌝ }
     ensures { λ r. ⌜ r ≡ answerFor noBits (refused (says why)) ⌝ }
 {
-    Answer {
-        refusal: why.number() as u16,
-        place: why.place() as u16,
-        found: why.found() as u16,
-        bits: 0,
+    told(why.number() as u16, why.place() as u16, why.found() as u16)
+}
+
+fn refused_at_line(why: LineRefusal) -> Answer
+    requires { ⌜ placeOf (lineSays why) ≤ 15 ⌝ }
+    ensures { λ r. ⌜ r ≡ answerFor noBits (refused (lineSays why)) ⌝ }
+{
+    match why {
+        LineRefusal::Call(why) => refused(why),
+        LineRefusal::Line => told(16, 0, 0),
+        LineRefusal::OutputLength => told(17, 0, 0),
+    }
+}
+
+// What `save` and `restart` answer.
+fn told_at_line(answer: LineAnswer) -> Answer
+    requires { ⌜ ofFault placeOf (lineAnswerSays answer) ≤ 15 ⌝ }
+    ensures { λ r. ⌜ r ≡ answerFor noBits (lineAnswerSays answer) ⌝ }
+{
+    match answer {
+        LineAnswer::Decoded => accepted(0),
+        LineAnswer::Refused(why) => refused_at_line(why),
     }
 }
 
@@ -74,6 +110,66 @@ pub extern "C" fn tns_decode(
         DecodeAnswer::Decoded => accepted(0),
         DecodeAnswer::Refused(why) => refused(why),
     }
+}
+
+// Decodes a spectrum into an output of the same length, as `tns_decode::save`, and writes the eight
+// states as they are before line n. A refused call writes neither.
+#[no_mangle]
+pub extern "C" fn tns_decode_save(
+    duration: u8,
+    bandwidth: u8,
+    filters: u8,
+    orders: &[u8],
+    indices: &[u8],
+    spectrum: &[f32],
+    output: &mut [f32],
+    n: usize,
+    states: &mut [f32; 8],
+) -> Answer
+    ensures { λ r. ⌜ TnsSaves (lineCallChecks duration bandwidth filters (now (orders .entry)) (now (indices .entry)) (length (now (spectrum .entry))) n (length (now (output .entry)))) (spectrumDecoded duration bandwidth filters (now (orders .entry)) (now (indices .entry)) (now (spectrum .entry))) (statesBefore n (rowOf (durationOf duration) bandwidth) filters (now (orders .entry)) (now (indices .entry)) (now (spectrum .entry))) (lentAtLine (now (output .entry)) (now (states .entry))) (lentAtLine (now (output .exit)) (now (states .exit))) r ⌝ }
+{
+    let answer = save(
+        duration,
+        bandwidth,
+        filters,
+        orders,
+        indices,
+        spectrum,
+        output,
+        n,
+        states,
+    );
+    told_at_line(answer)
+}
+
+// Writes the output of a spectrum from line n on, as `tns_decode::restart`, going on from any eight
+// states. Nothing is written below n, and nothing by a refused call.
+#[no_mangle]
+pub extern "C" fn tns_decode_restart(
+    duration: u8,
+    bandwidth: u8,
+    filters: u8,
+    orders: &[u8],
+    indices: &[u8],
+    spectrum: &[f32],
+    output: &mut [f32],
+    n: usize,
+    states: &[f32; 8],
+) -> Answer
+    ensures { λ r. ⌜ TnsRestarts (lineCallChecks duration bandwidth filters (now (orders .entry)) (now (indices .entry)) (length (now (spectrum .entry))) n (length (now (output .entry)))) n (linesFrom n (rowOf (durationOf duration) bandwidth) filters (now (orders .entry)) (now (indices .entry)) (now (states .entry)) (now (spectrum .entry))) (now (output .entry)) (now (output .exit)) r ⌝ }
+{
+    let answer = restart(
+        duration,
+        bandwidth,
+        filters,
+        orders,
+        indices,
+        spectrum,
+        output,
+        n,
+        states,
+    );
+    told_at_line(answer)
 }
 
 // Encodes a spectrum in place, as `tns_encode::encode`. An accepted call writes its side data as the

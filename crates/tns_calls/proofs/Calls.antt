@@ -3,17 +3,19 @@ use mathlib.Core.Path.{_≡_, refl, sym, _∙_, ap}
 use mathlib.Core.Bool.{Bool, true, false, _||_, not}
 use mathlib.Core.List.{List}
 use Prim.Native.Nat.{ℕ, _≤_}
+use native.Mathlib.Omega.{arith}
 use lib.Dec.{ltb, eqb}
 use borrow.Author.Tests.{ltb-false, eqb-true}
 use Rattle.tns_refusals.specs.Refusals.{Fault, Verdict, accepted, refused, noFault, check, sideChecks, SoundSide}
-use Rattle.tns_refusals.proofs.Sides.{settle, not-accepted, refused-by-checks, passed-by-checks, sides-settle, sound-side}
+use Rattle.tns_refusals.proofs.Sides.{settle, not-accepted, sides-settle, sound-side}
 use Rattle.tns_rows.specs.Durations.{durationOf}
 use Rattle.tns_rows.specs.Bands.{rowOf, lastStop}
 use Rattle.tns_rows.specs.declared.row.Row.{Row}
 use Rattle.tns_rows.proofs.Bands.{SoundRow}
-use Rattle.tns_frames.specs.Frames.{frameChecks}
-use Rattle.tns_frames.proofs.Frames.{frames-settle, accepted-row}
-use Rattle.tns_calls.specs.Calls.{callChecks, callOf, lineChecks, lineCallChecks, lineCallOf}
+use Rattle.tns_rows.proofs.Apart.{InTurn, row-in-turn}
+use Rattle.tns_frames.specs.Frames.{frameChecks, frameOf}
+use Rattle.tns_frames.proofs.Frames.{frames-settle, refused-frame, passed-frame, accepted-row}
+use Rattle.tns_calls.specs.Calls.{callChecks, lineChecks, lineCallChecks}
 
 -- checks, then others, then what follows
 settled : {A : Type 0} (v w : Verdict (Unit {0})) (next : Verdict A) → settle v (settle w next) ≡ settle (settle v w) next
@@ -28,9 +30,6 @@ ends (refused fault) next a e = not-accepted e
 -- ---- refusals 1 to 7
 
 module _ (duration bandwidth filters : ℕ) (orders indices : List ℕ) (lines : ℕ) where
-  abbrev own : Row
-  own = rowOf (durationOf duration) bandwidth
-
   abbrev frame : Verdict (Unit {0})
   frame = frameChecks duration bandwidth lines noFault
 
@@ -44,21 +43,6 @@ module _ (duration bandwidth filters : ℕ) (orders indices : List ℕ) (lines :
       ∙ ap (settle frame) (sides-settle filters orders indices next)
       ∙ settled frame side next
       ∙ ap (λ (v : Verdict (Unit {0})). settle v next) (sym (frames-settle duration bandwidth lines side))
-
-  -- a call that they refuse, and one that they pass
-  call-is : callOf duration bandwidth filters orders indices lines ≡ settle (callChecks duration bandwidth filters orders indices lines noFault) (accepted own)
-  unfolding callOf
-  call-is = calls-settle (accepted own)
-
-  pub refused-call : {A : Type 0} (next : Verdict A) (why : Fault) → refused why ≡ callOf duration bandwidth filters orders indices lines
-      → callChecks duration bandwidth filters orders indices lines next ≡ refused why
-  refused-call next why e = calls-settle next ∙ refused-by-checks (callChecks duration bandwidth filters orders indices lines noFault) own why (e ∙ call-is) next
-
-  pub passed-call : {A : Type 0} (next : Verdict A) (row : Row) → accepted row ≡ callOf duration bandwidth filters orders indices lines
-      → (row ≡ rowOf (durationOf duration) bandwidth) × (callChecks duration bandwidth filters orders indices lines next ≡ next)
-  passed-call next row e =
-      let p = passed-by-checks (callChecks duration bandwidth filters orders indices lines noFault) own row (e ∙ call-is) in
-      (p .0, calls-settle next ∙ p .1 next)
 
   -- what is known of a call that goes on from them to a result
   pub record SoundCall : Type 0 where
@@ -94,14 +78,6 @@ module _ (row : Row) (lines n output : ℕ) where
   abbrev equal : Bool
   equal = eqb output lines
 
-  lines-settle : {A : Type 0} (next : Verdict A) → lineChecks row lines n output next ≡ settle (lineChecks row lines n output noFault) next
-  lines-settle {A} next = cases (low || high) equal
-    where
-      cases : (a b : Bool) → check 16 a (check 17 (not b) next) ≡ settle (check 16 a (check 17 (not b) noFault)) next
-      cases true b = refl
-      cases false true = refl
-      cases false false = refl
-
   sound-line : lineChecks row lines n output noFault ≡ noFault → SoundLine row lines n output
   sound-line = cases low refl high refl equal refl
     where
@@ -114,57 +90,71 @@ module _ (row : Row) (lines n output : ℕ) where
 
 -- ---- the checks of a call at a line
 
+-- Behind the checks of a call at a line this may be relied on.
+pub record Ready (row : Row) (filters : ℕ) (orders indices : List ℕ) (lines n output : ℕ) : Type 0 where
+  pub bands : SoundRow row lines
+  pub in-turn : InTurn (row .first) (row .second)
+  pub side-data : SoundSide filters orders indices
+  pub as-long : output ≡ lines
+  pub there : n ≤ lines
+
 module _ (duration bandwidth filters : ℕ) (orders indices : List ℕ) (lines n output : ℕ) where
   abbrev its : Row
   its = rowOf (durationOf duration) bandwidth
 
   -- 1 to 7 are those of every decode call, judged on the spectrum, and 16 and 17 stand after them
-  pub call-then-line : {A : Type 0} (next : Verdict A)
-      → lineCallChecks duration bandwidth filters orders indices lines n output next
-      ≡ settle (callChecks duration bandwidth filters orders indices lines noFault) (lineChecks (rowOf (durationOf duration) bandwidth) lines n output next)
+  pub call-then-line : lineCallChecks duration bandwidth filters orders indices lines n output
+      ≡ settle (callChecks duration bandwidth filters orders indices lines noFault) (lineChecks (rowOf (durationOf duration) bandwidth) lines n output noFault)
   unfolding lineCallChecks
-  call-then-line next = calls-settle duration bandwidth filters orders indices lines (lineChecks its lines n output next)
+  call-then-line = calls-settle duration bandwidth filters orders indices lines (lineChecks its lines n output noFault)
 
-  pub line-calls-settle : {A : Type 0} (next : Verdict A)
-      → lineCallChecks duration bandwidth filters orders indices lines n output next
-      ≡ settle (lineCallChecks duration bandwidth filters orders indices lines n output noFault) next
-  line-calls-settle {A} next =
-      let call = callChecks duration bandwidth filters orders indices lines noFault in
-      call-then-line next
-      ∙ ap (settle call) (lines-settle its lines n output next)
-      ∙ settled call (lineChecks its lines n output noFault) next
-      ∙ ap (λ (v : Verdict (Unit {0})). settle v next) (sym (call-then-line noFault))
+  -- what a frame that is refused, side data that are refused, and a line or an output that is refused make of the call, and one that passes them all
+  pub frame-fails : (why : Fault) → refused why ≡ frameOf duration bandwidth lines → refused why ≡ lineCallChecks duration bandwidth filters orders indices lines n output
+  unfolding lineCallChecks
+  frame-fails why e = sym (refused-frame duration bandwidth lines (sideChecks filters orders indices (lineChecks its lines n output noFault)) why e)
 
-  line-call-is : lineCallOf duration bandwidth filters orders indices lines n output
-      ≡ settle (lineCallChecks duration bandwidth filters orders indices lines n output noFault) (accepted its)
-  unfolding lineCallOf
-  line-call-is = line-calls-settle (accepted its)
+  module _ (row : Row) (passes : accepted row ≡ frameOf duration bandwidth lines) where
+    pub its-row : row ≡ rowOf (durationOf duration) bandwidth
+    its-row = passed-frame duration bandwidth lines noFault row passes .0
 
-  pub refused-line-call : {A : Type 0} (next : Verdict A) (why : Fault) → refused why ≡ lineCallOf duration bandwidth filters orders indices lines n output
-      → lineCallChecks duration bandwidth filters orders indices lines n output next ≡ refused why
-  refused-line-call next why e =
-      line-calls-settle next ∙ refused-by-checks (lineCallChecks duration bandwidth filters orders indices lines n output noFault) its why (e ∙ line-call-is) next
+    frame-passes : lineCallChecks duration bandwidth filters orders indices lines n output ≡ settle (sideChecks filters orders indices noFault) (lineChecks its lines n output noFault)
+    unfolding lineCallChecks
+    frame-passes =
+        passed-frame duration bandwidth lines (sideChecks filters orders indices (lineChecks its lines n output noFault)) row passes .1
+        ∙ sides-settle filters orders indices (lineChecks its lines n output noFault)
 
-  pub passed-line-call : {A : Type 0} (next : Verdict A) (row : Row) → accepted row ≡ lineCallOf duration bandwidth filters orders indices lines n output
-      → (row ≡ rowOf (durationOf duration) bandwidth) × (lineCallChecks duration bandwidth filters orders indices lines n output next ≡ next)
-  passed-line-call next row e =
-      let p = passed-by-checks (lineCallChecks duration bandwidth filters orders indices lines n output noFault) its row (e ∙ line-call-is) in
-      (p .0, line-calls-settle next ∙ p .1 next)
+    pub side-fails : (why : Fault) → refused why ≡ sideChecks filters orders indices noFault
+        → refused why ≡ lineCallChecks duration bandwidth filters orders indices lines n output
+    side-fails why e = ap (λ (v : Verdict (Unit {0})). settle v (lineChecks its lines n output noFault)) e ∙ sym frame-passes
 
-  -- what is known of a call at a line that they find no fault with
-  pub record SoundLineCall : Type 0 where
-    pub call : SoundCall duration bandwidth filters orders indices lines
-    pub line : SoundLine (rowOf (durationOf duration) bandwidth) lines n output
-    pub passes : callChecks duration bandwidth filters orders indices lines noFault ≡ noFault
+    pub line-decides : noFault ≡ sideChecks filters orders indices noFault
+        → lineChecks row lines n output noFault ≡ lineCallChecks duration bandwidth filters orders indices lines n output
+    line-decides e =
+        ap (λ (r : Row). lineChecks r lines n output noFault) its-row
+        ∙ ap (λ (v : Verdict (Unit {0})). settle v (lineChecks its lines n output noFault)) e
+        ∙ sym frame-passes
 
-  pub sound-line-call : lineCallChecks duration bandwidth filters orders indices lines n output noFault ≡ noFault → SoundLineCall
+  pub sound-line-call : lineCallChecks duration bandwidth filters orders indices lines n output ≡ noFault
+      → SoundCall duration bandwidth filters orders indices lines × SoundLine (rowOf (durationOf duration) bandwidth) lines n output
   unfolding lineCallChecks
   sound-line-call e =
       let p = sound-call duration bandwidth filters orders indices lines (lineChecks its lines n output noFault) tt e in
+      (p .0, sound-line its lines n output (p .1))
+
+  -- a decode call with the same frame and side data is accepted too
+  pub call-accepted : lineCallChecks duration bandwidth filters orders indices lines n output ≡ noFault
+      → callChecks duration bandwidth filters orders indices lines noFault ≡ noFault
+  call-accepted e =
+      ends (callChecks duration bandwidth filters orders indices lines noFault) (lineChecks its lines n output noFault) tt (sym call-then-line ∙ e) .0
+
+  pub ready : lineCallChecks duration bandwidth filters orders indices lines n output ≡ noFault
+      → Ready (rowOf (durationOf duration) bandwidth) filters orders indices lines n output
+  ready e =
+      let sound = sound-line-call e in
       record {
-        call = p .0;
-        line = sound-line its lines n output (p .1);
-        passes =
-            ends (callChecks duration bandwidth filters orders indices lines noFault) (lineChecks its lines n output noFault) tt
-            (sym (calls-settle duration bandwidth filters orders indices lines (lineChecks its lines n output noFault)) ∙ e) .0;
+        bands = sound .0 .bands;
+        in-turn = row-in-turn (durationOf duration) bandwidth;
+        side-data = sound .0 .side-data;
+        as-long = sound .1 .as-long;
+        there = omega (arith, sound .1 .to-stop, sound .0 .bands .first-fits .end, sound .0 .bands .second-fits .end);
       }

@@ -1,30 +1,21 @@
 -- Any two results that a contract allows for one input coincide: the law of `tns_refusals`, cited for each public function of this crate.
 use mathlib.Core.Path.{_≡_, refl, _∙_, ap}
 use mathlib.Core.Bool.{cond}
-use Prim.Native.Nat.{ℕ, _≤_}
+use Prim.Native.Nat.{_≤_}
 use native.Mathlib.Nat.{lt-irrefl}
 use native.Mathlib.Omega.{arith}
 use lib.Dec.{eqb}
 use borrow.Author.Tests.{ne-eqb}
 use Rattle.tns_refusals.specs.Refusals.{Fault, numbered, placed, Verdict, accepted, refused, numberOf, says}
 use Rattle.tns_refusals.proofs.Eight.{refusalBack, of-eight}
-use Rattle.tns_refusals.proofs.Determined.{Determined, coincide, answerBack}
-use Rattle.tns_rows.specs.declared.row.Row.{Row}
-use Rattle.tns_frames.specs.Frames.{frameSays}
-use Rattle.tns_frames.specs.declared.FrameAnswer.the-variants as frame
-use Rattle.tns_frames.proofs.Determined.{frameBack}
-use Rattle.tns_calls.specs.Calls.{lineSays, lineFrameSays}
+use Rattle.tns_refusals.proofs.Determined.{Determined, coincide}
+use Rattle.tns_calls.specs.Calls.{lineSays, lineCheckSays}
 use Rattle.tns_calls.specs.declared.LineRefusal.{LineRefusal}
 use Rattle.tns_calls.specs.declared.LineRefusal.the-variants.{Call, Line, OutputLength}
-use Rattle.tns_calls.specs.declared.LineFrame.{LineFrame}
-use Rattle.tns_calls.specs.declared.LineFrame.the-variants.{Sound, Refused}
-use Rattle.tns_calls.proofs.check_call.Kinds as check-call-kinds
-use Rattle.tns_calls.proofs.check_call.Reads as check-call-reads
-use Rattle.tns_calls.proofs.check_line_call.Kinds as check-line-call-kinds
-use Rattle.tns_calls.proofs.check_line_call.Reads as check-line-call-reads
-
-check-call : Determined 2 check-call-kinds.ps check-call-kinds.r check-call-reads.Post
-check-call κs a x y s t p q = coincide frameSays (answerBack frame.Sound frame.Refused) frameBack p q
+use Rattle.tns_calls.specs.declared.LineCheck.{LineCheck}
+use Rattle.tns_calls.specs.declared.LineCheck.the-variants.{Sound, Refused}
+use Rattle.tns_calls.proofs.check_line.Kinds as check-line-kinds
+use Rattle.tns_calls.proofs.check_line.Reads as check-line-reads
 
 -- the refusal of a call at a line back from its fault
 abbrev pub lineRefusalBack : Fault → LineRefusal
@@ -49,9 +40,9 @@ abbrev pub lineAnswerBack : {A R : Type 0} → (A → R) → (LineRefusal → R)
 lineAnswerBack accept refuse (accepted a) = accept a
 lineAnswerBack accept refuse (refused fault) = refuse (lineRefusalBack fault)
 
-lineFrameBack : (answer : LineFrame) → lineAnswerBack Sound Refused (lineFrameSays answer) ≡ answer
-lineFrameBack (Sound row) = refl
-lineFrameBack (Refused why) = ap Refused (line-refusal-back why)
+lineBack : (answer : LineCheck) → lineAnswerBack (λ (u : Unit {0}). Sound) Refused (lineCheckSays answer) ≡ answer
+lineBack Sound = refl
+lineBack (Refused why) = ap Refused (line-refusal-back why)
 
-check-line-call : Determined 2 check-line-call-kinds.ps check-line-call-kinds.r check-line-call-reads.Post
-check-line-call κs a x y s t p q = coincide lineFrameSays (lineAnswerBack Sound Refused) lineFrameBack p q
+check-line : Determined 0 check-line-kinds.ps check-line-kinds.r check-line-reads.Post
+check-line κs a x y s t p q = coincide lineCheckSays (lineAnswerBack (λ u. Sound) Refused) lineBack p q

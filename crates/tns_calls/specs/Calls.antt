@@ -3,24 +3,19 @@ use mathlib.Core.Bool.{_||_, not}
 use mathlib.Core.List.{List}
 use Prim.Native.Nat.{ℕ}
 use lib.Dec.{ltb, eqb}
-use Rattle.tns_refusals.specs.Refusals.{Fault, numbered, Verdict, accepted, refused, check, says, sideChecks}
+use Rattle.tns_refusals.specs.Refusals.{Fault, numbered, Verdict, refused, noFault, check, says, sideChecks}
 use Rattle.tns_rows.specs.Durations.{durationOf}
 use Rattle.tns_rows.specs.Bands.{rowOf, lastStop}
 use Rattle.tns_rows.specs.declared.row.Row.{Row}
 use Rattle.tns_frames.specs.Frames.{frameChecks}
 use Rattle.tns_calls.specs.declared.LineRefusal.{LineRefusal}
 use Rattle.tns_calls.specs.declared.LineRefusal.the-variants.{Call, Line, OutputLength}
-use Rattle.tns_calls.specs.declared.LineFrame.{LineFrame}
-use Rattle.tns_calls.specs.declared.LineFrame.the-variants.{Sound, Refused}
+use Rattle.tns_calls.specs.declared.LineCheck.{LineCheck}
+use Rattle.tns_calls.specs.declared.LineCheck.the-variants.{Sound, Refused}
 
 -- refusals 1 to 7, in number order, for a spectrum of so many lines
 abbrev pub callChecks : {A : Type 0} → ℕ → ℕ → ℕ → List ℕ → List ℕ → ℕ → Verdict A → Verdict A
 callChecks duration bandwidth filters orders indices lines next = frameChecks duration bandwidth lines (sideChecks filters orders indices next)
-
--- the row of a call that they find no fault with
-unfoldable pub callOf : ℕ → ℕ → ℕ → List ℕ → List ℕ → ℕ → Verdict Row
-callOf duration bandwidth filters orders indices lines =
-    callChecks duration bandwidth filters orders indices lines (accepted (rowOf (durationOf duration) bandwidth))
 
 -- 16: line n below the row's first start, or over its last stop. 17: an output of another length than the spectrum
 abbrev pub lineChecks : {A : Type 0} → Row → ℕ → ℕ → ℕ → Verdict A → Verdict A
@@ -30,16 +25,11 @@ lineChecks row lines n output next =
     next)
 
 -- refusals 1 to 7, 16 and 17, in number order: 1 to 7 are judged on the spectrum
-unfoldable pub lineCallChecks : {A : Type 0} → ℕ → ℕ → ℕ → List ℕ → List ℕ → ℕ → ℕ → ℕ → Verdict A → Verdict A
-lineCallChecks duration bandwidth filters orders indices lines n output next =
+unfoldable pub lineCallChecks : ℕ → ℕ → ℕ → List ℕ → List ℕ → ℕ → ℕ → ℕ → Verdict (Unit {0})
+lineCallChecks duration bandwidth filters orders indices lines n output =
     callChecks duration bandwidth filters orders indices lines
     (lineChecks (rowOf (durationOf duration) bandwidth) lines n output
-    next)
-
--- the row of a call at a line that they find no fault with
-unfoldable pub lineCallOf : ℕ → ℕ → ℕ → List ℕ → List ℕ → ℕ → ℕ → ℕ → Verdict Row
-lineCallOf duration bandwidth filters orders indices lines n output =
-    lineCallChecks duration bandwidth filters orders indices lines n output (accepted (rowOf (durationOf duration) bandwidth))
+    noFault)
 
 -- the number, and for 6 and 7 the place and the found value, of each refusal of a call at a line
 abbrev pub lineSays : LineRefusal → Fault
@@ -47,7 +37,7 @@ lineSays (Call why) = says why
 lineSays Line = numbered 16
 lineSays OutputLength = numbered 17
 
--- what the checks of a call at a line say
-abbrev pub lineFrameSays : LineFrame → Verdict Row
-lineFrameSays (Sound row) = accepted row
-lineFrameSays (Refused why) = refused (lineSays why)
+-- what the checks 16 and 17 say
+abbrev pub lineCheckSays : LineCheck → Verdict (Unit {0})
+lineCheckSays Sound = noFault
+lineCheckSays (Refused why) = refused (lineSays why)

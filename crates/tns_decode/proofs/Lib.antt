@@ -2,5 +2,7 @@
 pub mod CountedFilters
 pub mod DecodeVerdict
 pub mod Once
+pub mod AtLine
+pub mod LineVerdict
 pub mod Outside
 pub mod Determined

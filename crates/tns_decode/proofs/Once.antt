@@ -11,7 +11,7 @@ use Rattle.tns_rows.specs.Bands.{rowOf, noBand}
 use Rattle.tns_rows.specs.declared.row.Row.{Row}
 use Rattle.tns_lattices.specs.Lattice.{atRest}
 use Rattle.tns_lattices.specs.DecoderLattice.{lineDecoded}
-use Rattle.tns_filters.proofs.Filters.{acting, without-band}
+use Rattle.tns_filters.proofs.Filters.{acting, no-lines}
 use Rattle.tns_decode.specs.Decoder.{rowDecoded, decodeChecks, spectrumDecoded}
 use Rattle.tns_decode.proofs.CountedFilters.{first, second, one-counted, two-counted, row-is-decoded}
 
@@ -21,7 +21,7 @@ twice-is-once row orders indices lines none =
     let f = first row orders indices lines in
     let g = second row orders indices lines in
     let once = acting lineDecoded (row .first) f atRest lines in
-    let again = without-band lineDecoded (row .second) none g _ _ in
+    let again = no-lines lineDecoded (row .second) (rw none) g _ _ in
     sym (row-is-decoded row orders indices lines 2 _ _ (two-counted row orders indices lines atRest _ _ _ _ once again))
     ∙ row-is-decoded row orders indices lines 1 _ _ (one-counted row orders indices lines atRest _ _ once)
 

@@ -1,2 +1,3 @@
--- What a reader has to believe of the decode call.
+-- What a reader has to believe of the decode call, and of save and restart.
 pub mod Decoder
+pub mod Restart

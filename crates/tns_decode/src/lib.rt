@@ -1,20 +1,26 @@
-// The decode call. A frame goes through it in the order of this file: its checks, then the counted
-// filters in the caller's own spectrum, each over the lines of its band, with coefficients by its
-// indices. This undoes the encoder's filter.
-use tns_calls::check_call;
+// The decode call. A frame goes through it in the order of this file: its checks in `decode`, then the
+// counted filters in the caller's own spectrum, each over the lines of its band, with coefficients by
+// its indices. This undoes the encoder's filter. Save and restart, which split a run at a line, are in
+// `at_line`.
+mod at_line;
+
+pub use at_line::LineAnswer;
+pub use at_line::restart;
+pub use at_line::save;
 use tns_frames::FrameAnswer;
-use tns_index::coefficient_of;
+use tns_frames::check_frame;
+use tns_index::eight_coefficients;
 use tns_lattices::band_decoded;
 use tns_refusals::Refusal;
+use tns_refusals::SideAnswer;
+use tns_refusals::check_side;
 use tns_rows::Band;
 use tns_rows::Row;
 ghost use mathlib.Core.Path.{_≡_};
-ghost use mathlib.Core.List.{map};
 ghost use Prim.Native.Nat.{_≤_};
 ghost use lib.ListN.{length};
 ghost use Rattle.tns_lists.specs.Counted.{counted};
 ghost use Rattle.tns_refusals.specs.Refusals.{SoundSide};
-ghost use Rattle.tns_index.specs.Quantizer.{coefficientOf};
 ghost use Rattle.tns_rows.proofs.Bands.{Fits, SoundRow};
 ghost use Rattle.tns_lattices.specs.DecoderLattice.{lineDecoded};
 ghost use Rattle.tns_filters.specs.Filters.{FilteredIn, FilteredRow};
@@ -38,12 +44,18 @@ pub fn decode(
 ) -> DecodeAnswer
     ensures { λ r. ⌜ Decodes duration bandwidth filters (now (orders .entry)) (now (indices .entry)) (now (lines .entry)) (now (lines .exit)) r ⌝ }
 {
-    let frame = check_call(duration, bandwidth, filters, orders, indices, lines.len());
+    let frame = check_frame(duration, bandwidth, lines.len());
     match frame {
         FrameAnswer::Refused(why) => DecodeAnswer::Refused(why),
         FrameAnswer::Sound(row) => {
-            row_decoded(row, filters, orders, indices, lines);
-            DecodeAnswer::Decoded
+            let side = check_side(filters, orders, indices);
+            match side {
+                SideAnswer::Refused(why) => DecodeAnswer::Refused(why),
+                SideAnswer::Sound => {
+                    row_decoded(row, filters, orders, indices, lines);
+                    DecodeAnswer::Decoded
+                }
+            }
         }
     }
 }
@@ -105,20 +117,28 @@ fn filter_decoded(
     if order == 0 {
         return states;
     }
-    let q = coefficients(indices);
     let start = band.start;
     let stop = band.stop;
+    if start == stop {
+        return states;
+    }
+    let q = eight_coefficients(eight_of(indices));
     band_decoded(q, order, states, &mut lines[start..stop])
 }
 
-// The eight coefficients of a filter.
-fn coefficients(indices: &[u8]) -> [f32; 8]
+// A filter's eight indices.
+fn eight_of(indices: &[u8]) -> [u8; 8]
     requires { ⌜ length (now indices) ≡ 8 ⌝ }
-    ensures { λ r. ⌜ r ≡ map coefficientOf (now (indices .entry)) ⌝ }
+    ensures { λ r. ⌜ r ≡ now (indices .entry) ⌝ }
 {
-    let mut q = [0.0; 8];
-    for k in 0..8usize {
-        q[k] = coefficient_of(indices[k]);
-    }
-    q
+    [
+        indices[0],
+        indices[1],
+        indices[2],
+        indices[3],
+        indices[4],
+        indices[5],
+        indices[6],
+        indices[7],
+    ]
 }

@@ -1,26 +1,26 @@
 -- Request C-22: on either side of a line the filters of a row do what the lines of that side decide. Below it: the lines there, and the filters whose
 -- band begins there, decide what the lines become and the states at the line. From it on: the lines from there on, and the states at the line. And
 -- neither side writes to the other.
-use mathlib.Core.Path.{_≡_, refl, sym, _∙_, ap}
+use mathlib.Core.Path.{_≡_, refl, sym, _∙_, ap, subst}
 use mathlib.Core.List.{List, [], _∷_, _++_, append-assoc}
-use Prim.Native.Nat.{ℕ, _+_, _-_, _≤_, _<_, min, max}
+use Prim.Native.Nat.{ℕ, _+_, _-_, _≤_, min, max}
 use native.Mathlib.Decide.{decLt}
 use native.Mathlib.Omega.{arith}
 use lib.Ieee.{Float}
-use lib.ListN.{length, take, drop, length-append, length-drop}
+use lib.ListN.{length, take, drop}
 use lib.Seq.{length-take-le, take-take, drop-drop, take-append-le, drop-append-le, take-append-add}
 use Rattle.tns_lists.specs.Places.{part}
 use Rattle.tns_lists.proofs.Parts.{drop-take, part-of-first, part-of-rest}
-use Rattle.tns_rows.specs.Bands.{inside, within}
 use Rattle.tns_rows.specs.declared.row.Band.{Band}
 use Rattle.tns_rows.specs.declared.row.Row.{Row}
 use Rattle.tns_rows.proofs.Bands.{Fits, SoundRow}
+use Rattle.tns_rows.proofs.Apart.{InTurn}
 use Rattle.tns_lattices.specs.Lattice.{Lattice}
 use Rattle.tns_lattices.proofs.BandLines.{by-length}
 use Rattle.tns_filters.specs.Filters.{Filter, Run, bandsRun, rowRun}
-use Rattle.tns_filters.specs.Split.{bandBelow, bandFromLine, rowBelow, rowFromLine, Begins}
-use Rattle.tns_filters.proofs.Filters.{change, leaves}
-use Rattle.tns_filters.proofs.Split.{below-fits, from-fits, from-z, None, acted, acted-none, acted-length, beyond}
+use Rattle.tns_filters.specs.Split.{bandBelowLine, bandFromLine, rowBelowLine, rowFromLine, Begins}
+use Rattle.tns_filters.proofs.Filters.{change}
+use Rattle.tns_filters.proofs.Split.{below-fits, from-fits, done-length, from-z, None, acted, acted-none, acted-length, beyond, row-in-two}
 
 -- ---- a change within a band on one side of the line, whatever it is
 
@@ -49,11 +49,7 @@ module _ (n a z : ℕ) (order : a ≤ z) (to : z ≤ n) (xs : List Float) (end :
   lines-below : take n (take a xs ++ (c (part a z xs) ++ drop z xs)) ≡ take a (take n xs) ++ (c (part a z (take n xs)) ++ drop z (take n xs))
   lines-below =
       let done = take a xs ++ c (part a z xs) in
-      let done-length : length done ≡ z =
-      length-append (take a xs) (c (part a z xs))
-      ∙ omega (arith, length-take-le a xs (omega arith), as-long, length-take-le (z - a) (drop a xs) (omega (arith, length-drop a xs)))
-      in
-      let many : length done + (n - z) ≡ n = omega arith in
+      let many : length done + (n - z) ≡ n = omega (arith, done-length a z n xs order to end c c c as-long) in
       ap (take n) (sym (append-assoc (take a xs) (c (part a z xs)) (drop z xs)))
       ∙ ap (λ (k : ℕ). take k (done ++ drop z xs)) (sym many)
       ∙ take-append-add done (drop z xs) (n - z)
@@ -73,7 +69,7 @@ pub record SameFrom (n : ℕ) (r t : Run) : Type 0 where
 
 module _ (lattice : Lattice) (n : ℕ) (band : Band) where
   -- a band that does not begin below the line has no part there
-  none-below : (lines : ℕ) → Fits band lines → (Begins n band → ⊥) → None (bandBelow n band)
+  none-below : (lines : ℕ) → Fits band lines → (Begins n band → ⊥) → None (bandBelowLine n band)
   none-below lines fits not = elim (decLt (band .start) n) [
     | yes low ↦
         elim (decLt (band .start) (band .stop)) [
@@ -84,7 +80,7 @@ module _ (lattice : Lattice) (n : ℕ) (band : Band) where
   ]
 
   acted-below : (f g : Filter) (r t : Run) → Fits band (length (r .lines)) → Fits band (length (t .lines)) → (Begins n band → f ≡ g) → SameBelow n r t
-      → SameBelow n (acted lattice (bandBelow n band) f r) (acted lattice (bandBelow n band) g t)
+      → SameBelow n (acted lattice (bandBelowLine n band) f r) (acted lattice (bandBelowLine n band) g t)
   acted-below f g r t fr ft agree same = elim (decLt (band .start) n) [
     | yes low ↦
         elim (decLt (band .start) (band .stop)) [
@@ -94,10 +90,10 @@ module _ (lattice : Lattice) (n : ℕ) (band : Band) where
     | no high ↦ idle (none-below (length (r .lines)) fr (λ b. absurd (high (b .0))))
   ]
     where
-      idle : None (bandBelow n band) → SameBelow n (acted lattice (bandBelow n band) f r) (acted lattice (bandBelow n band) g t)
-      idle none = rw (acted-none lattice (bandBelow n band) none f r, acted-none lattice (bandBelow n band) none g t) same
+      idle : None (bandBelowLine n band) → SameBelow n (acted lattice (bandBelowLine n band) f r) (acted lattice (bandBelowLine n band) g t)
+      idle none = rw (acted-none lattice (bandBelowLine n band) none f r, acted-none lattice (bandBelowLine n band) none g t) same
 
-      begins : f ≡ g → SameBelow n (acted lattice (bandBelow n band) f r) (acted lattice (bandBelow n band) g t)
+      begins : f ≡ g → SameBelow n (acted lattice (bandBelowLine n band) f r) (acted lattice (bandBelowLine n band) g t)
       begins e =
           let a = min n (band .start) in
           let z = min n (band .stop) in
@@ -142,7 +138,7 @@ module _ (lattice : Lattice) (n : ℕ) (band : Band) where
       let b = from-fits n band (length (r .lines)) fits h in
       lines-below-stay n (max n (band .start)) (max n (band .stop)) (omega arith) (b .order) (r .lines) (omega (arith, b .order, b .end)) (change lattice f (r .states))
 
-  kept-from : (f : Filter) (r : Run) → Fits band (length (r .lines)) → drop n (acted lattice (bandBelow n band) f r .lines) ≡ drop n (r .lines)
+  kept-from : (f : Filter) (r : Run) → Fits band (length (r .lines)) → drop n (acted lattice (bandBelowLine n band) f r .lines) ≡ drop n (r .lines)
   kept-from f r fits =
       let b = below-fits n band (length (r .lines)) fits in
       lines-from-stay n (min n (band .start)) (min n (band .stop)) (b .order) (omega arith) (r .lines) (b .end) (change lattice f (r .states)) (by-length lattice _ _ _ _)
@@ -154,9 +150,9 @@ module _ (lattice : Lattice) (n : ℕ) (row : Row) where
   going states lines = record { lines = lines; states = states }
 
   -- a band fits the lines that a part of the other one's filter leaves
-  below-leaves : (f : Filter) (s xs : List Float) → SoundRow row (length xs) → Fits (row .second) (length (acted lattice (bandBelow n (row .first)) f (going s xs) .lines))
+  below-leaves : (f : Filter) (s xs : List Float) → SoundRow row (length xs) → Fits (row .second) (length (acted lattice (bandBelowLine n (row .first)) f (going s xs) .lines))
   below-leaves f s xs sound =
-      let long = acted-length lattice (bandBelow n (row .first)) f (going s xs) (below-fits n (row .first) (length xs) (sound .first-fits)) in
+      let long = acted-length lattice (bandBelowLine n (row .first)) f (going s xs) (below-fits n (row .first) (length xs) (sound .first-fits)) in
       record { order = sound .second-fits .order; end = omega (arith, sound .second-fits .end, long) }
 
   from-long : (f : Filter) (s xs : List Float) → SoundRow row (length xs) → n ≤ length xs
@@ -170,21 +166,21 @@ module _ (lattice : Lattice) (n : ℕ) (row : Row) where
 
   -- two spectra with the same lines below the line
   module _ (s xs ys : List Float) (sx : SoundRow row (length xs)) (sy : SoundRow row (length ys)) (same : take n xs ≡ take n ys) where
-    pub none-states : rowRun lattice (rowBelow n row) [] s xs .states ≡ rowRun lattice (rowBelow n row) [] s ys .states
+    pub none-states : rowRun lattice (rowBelowLine n row) [] s xs .states ≡ rowRun lattice (rowBelowLine n row) [] s ys .states
     unfolding bandsRun
     none-states = refl
 
     first-below : (f g : Filter) → (Begins n (row .first) → f ≡ g)
-        → SameBelow n (acted lattice (bandBelow n (row .first)) f (going s xs)) (acted lattice (bandBelow n (row .first)) g (going s ys))
+        → SameBelow n (acted lattice (bandBelowLine n (row .first)) f (going s xs)) (acted lattice (bandBelowLine n (row .first)) g (going s ys))
     first-below f g agree = acted-below lattice n (row .first) f g (going s xs) (going s ys) (sx .first-fits) (sy .first-fits) agree (record { lines = same; states = refl })
 
     pub one-states : (f g : Filter) → (Begins n (row .first) → f ≡ g)
-        → rowRun lattice (rowBelow n row) (f ∷ []) s xs .states ≡ rowRun lattice (rowBelow n row) (g ∷ []) s ys .states
+        → rowRun lattice (rowBelowLine n row) (f ∷ []) s xs .states ≡ rowRun lattice (rowBelowLine n row) (g ∷ []) s ys .states
     unfolding bandsRun
     one-states f g agree = first-below f g agree .states
 
     pub two-states : (f g h k : Filter) → (Begins n (row .first) → f ≡ g) → (Begins n (row .second) → h ≡ k)
-        → rowRun lattice (rowBelow n row) (f ∷ h ∷ []) s xs .states ≡ rowRun lattice (rowBelow n row) (g ∷ k ∷ []) s ys .states
+        → rowRun lattice (rowBelowLine n row) (f ∷ h ∷ []) s xs .states ≡ rowRun lattice (rowBelowLine n row) (g ∷ k ∷ []) s ys .states
     unfolding bandsRun
     two-states f g h k first second =
         acted-below lattice n (row .second) h k _ _ (below-leaves f s xs sx) (below-leaves g s ys sy) second (first-below f g first) .states
@@ -218,9 +214,30 @@ module _ (lattice : Lattice) (n : ℕ) (row : Row) where
         kept-below lattice n (row .second) g _ (from-leaves f s xs sound there) (omega (arith, from-long f s xs sound there))
         ∙ kept-below lattice n (row .first) f (going s xs) (sound .first-fits) there
 
-    pub rest-stay : (filters : List Filter) → drop n (rowRun lattice (rowBelow n row) filters s xs .lines) ≡ drop n xs
+    pub rest-stay : (filters : List Filter) → drop n (rowRun lattice (rowBelowLine n row) filters s xs .lines) ≡ drop n xs
     unfolding bandsRun
     rest-stay [] = refl
     rest-stay (f ∷ []) = kept-from lattice n (row .first) f (going s xs) (sound .first-fits)
     rest-stay (f ∷ g ∷ filters) =
         kept-from lattice n (row .second) g _ (below-leaves f s xs sound) ∙ kept-from lattice n (row .first) f (going s xs) (sound .first-fits)
+
+-- ---- a run goes on from the states at the line
+
+module _ (lattice : Lattice) (n : ℕ) (row : Row) (turn : InTurn (row .first) (row .second)) (s xs : List Float) (sound : SoundRow row (length xs)) (there : n ≤ length xs) where
+  below-long : (filters : List Filter) → length (rowRun lattice (rowBelowLine n row) filters s xs .lines) ≡ length xs
+  unfolding bandsRun
+  below-long [] = refl
+  below-long (f ∷ []) = acted-length lattice (bandBelowLine n (row .first)) f (going lattice n row s xs) (below-fits n (row .first) (length xs) (sound .first-fits))
+  below-long (f ∷ g ∷ filters) =
+      acted-length lattice (bandBelowLine n (row .second)) g _ (below-fits n (row .second) _ (below-leaves lattice n row f s xs sound))
+      ∙ acted-length lattice (bandBelowLine n (row .first)) f (going lattice n row s xs) (below-fits n (row .first) (length xs) (sound .first-fits))
+
+  pub goes-on : (filters : List Filter)
+      → drop n (rowRun lattice (rowFromLine n row) filters (rowRun lattice (rowBelowLine n row) filters s xs .states) xs .lines)
+      ≡ drop n (rowRun lattice row filters s xs .lines)
+  goes-on filters =
+      let at-line = rowRun lattice (rowBelowLine n row) filters s xs in
+      let long = below-long filters in
+      same-rest lattice n row (at-line .states) xs (at-line .lines) sound (subst (λ (k : ℕ). SoundRow row k) (sym long) sound) there (omega (arith, long))
+      (sym (rest-stay lattice n row s xs sound filters)) filters
+      ∙ ap (λ (r : Run). drop n (r .lines)) (row-in-two lattice n row turn s xs sound there filters)

@@ -6,10 +6,10 @@ use mathlib.Core.List.{List, [], _∷_, _++_}
 use Prim.Native.Nat.{ℕ, zero, suc, _-_, _≤_, _<_, min}
 use native.Mathlib.Omega.{arith}
 use lib.Ieee.{Float, nan}
-use lib.ListN.{length, getD, take, drop}
-use Rattle.tns_lists.specs.Lines.{linesThrough}
+use lib.ListN.{length, getD, take, drop, take-append-drop}
+use Rattle.tns_lists.specs.Lines.{linesThrough, stateThrough}
 use Rattle.tns_lists.proofs.Orders.{within-8}
-use Rattle.tns_rows.specs.Bands.{bandOf, noBand, inside, within}
+use Rattle.tns_rows.specs.Bands.{bandOf, inside, within}
 use Rattle.tns_rows.specs.declared.row.Band.{Band}
 use Rattle.tns_rows.specs.declared.row.Row.{Row}
 use Rattle.tns_rows.proofs.Bands.{Fits, SoundRow, band-kept, band-back}
@@ -59,12 +59,6 @@ module _ (lattice : Lattice) where
     unfolding rowFiltered
     at-rest filters after left run = run .lines
 
-    pub none-filtered : xs ≡ rowFiltered lattice row [] xs
-    none-filtered = at-rest [] atRest xs (none-run row atRest xs)
-
-    pub one-filtered : (f : Filter) (after left : List Float) → FilteredIn lattice (row .first) f atRest xs after left → left ≡ rowFiltered lattice row (f ∷ []) xs
-    one-filtered f after left a = at-rest (f ∷ []) after left (one-run row atRest xs f after left a)
-
     pub two-filtered : (f g : Filter) (after left end result : List Float) → FilteredIn lattice (row .first) f atRest xs after left
         → FilteredIn lattice (row .second) g after left end result → result ≡ rowFiltered lattice row (f ∷ g ∷ []) xs
     two-filtered f g after left end result a b = at-rest (f ∷ g ∷ []) end result (two-run row atRest xs f g after left end result a b)
@@ -74,10 +68,12 @@ module _ (lattice : Lattice) where
       → FilteredIn lattice band f states lines (leaves f states (inside band lines)) (within band (change f states) lines)
   acting band f states lines = record { states = refl; lines = refl }
 
-  -- a filter without a band has no line to act on
-  pub without-band : (band : Band) → band ≡ noBand → (f : Filter) (states lines : List Float) → FilteredIn lattice band f states lines (leaves f states []) lines
-  unfolding linesBy linesThrough
-  without-band band none f states lines = rw none (record { states = refl; lines = refl })
+  -- a filter whose band has no line leaves the spectrum and the states as they are
+  pub no-lines : (band : Band) → band .start ≡ band .stop → (f : Filter) (states lines : List Float) → FilteredIn lattice band f states lines states lines
+  unfolding linesBy statesBy linesThrough stateThrough
+  no-lines band e f states lines =
+      let none : band .stop - band .stop ≡ 0 = omega arith in
+      record { states = rw (e, none); lines = rw (e, none) (sym (take-append-drop (band .stop) lines)) }
 
   -- a filter of order 0 leaves the spectrum and the states as they are
   pub idle-filter : Idle lattice → (band : Band) (f : Filter) → f .order ≡ 0 → (states lines : List Float) → band .start ≤ band .stop

@@ -1,37 +1,36 @@
 -- Request C-22: filters that act below a line, and then from the line on with the states that they have there, leave what they leave in one go.
 use mathlib.Core.Path.{_≡_, refl, sym, _∙_, ap}
-use mathlib.Core.Logic.{⊎-elim, inl, inr}
+use mathlib.Core.Logic.{⊎-elim}
 use mathlib.Core.List.{List, [], _∷_, _++_, append-assoc}
-use Prim.Native.Nat.{ℕ, _+_, _-_, _≤_, _<_, min, max}
+use Prim.Native.Nat.{ℕ, _+_, _-_, _≤_, min, max}
 use native.Mathlib.Decide.{decLt}
 use native.Mathlib.Omega.{arith}
-use lib.Ieee.{Float, nan}
-use lib.ListN.{length, take, drop, length-append, length-drop, take-append-drop}
-use lib.Seq.{length-take-le, take-take, drop-drop, take-at, drop-at, take-append-le, drop-append-le, take-append-add}
-use Rattle.tns_lists.specs.Lines.{linesThrough, stateThrough}
+use lib.Ieee.{Float}
+use lib.ListN.{length, take, drop, length-append, length-drop}
+use lib.Seq.{length-take-le, drop-drop, take-at, drop-at}
 use Rattle.tns_lists.specs.Places.{part}
-use Rattle.tns_lists.proofs.Parts.{drop-take, part-of-first, part-of-rest, part-split}
+use Rattle.tns_lists.proofs.Parts.{part-split}
 use Rattle.tns_rows.specs.Bands.{inside, within}
 use Rattle.tns_rows.specs.declared.row.Band.{Band}
 use Rattle.tns_rows.specs.declared.row.Row.{Row}
 use Rattle.tns_rows.proofs.Bands.{Fits, SoundRow}
-use Rattle.tns_rows.proofs.Apart.{InTurn, Apart, within-length, inside-length, inside-other}
-use Rattle.tns_lattices.specs.Lattice.{Lattice, linesBy, statesBy}
+use Rattle.tns_rows.proofs.Apart.{InTurn, within-length}
+use Rattle.tns_lattices.specs.Lattice.{Lattice}
 use Rattle.tns_lattices.proofs.BandLines.{by-length, by-parts, states-by-parts}
 use Rattle.tns_filters.specs.Filters.{Filter, Run, bandsRun, rowRun, FilteredRow}
-use Rattle.tns_filters.specs.Split.{bandBelow, bandFromLine, rowBelow, rowFromLine}
-use Rattle.tns_filters.proofs.Filters.{change, leaves}
+use Rattle.tns_filters.specs.Split.{bandBelowLine, bandFromLine, rowBelowLine, rowFromLine}
+use Rattle.tns_filters.proofs.Filters.{change, leaves, no-lines}
 
 -- ---- cut bands lie where the whole ones do
 
 module _ (n : ℕ) (band : Band) (lines : ℕ) (fits : Fits band lines) where
-  pub below-fits : Fits (bandBelow n band) lines
+  pub below-fits : Fits (bandBelowLine n band) lines
   below-fits = record { order = omega (arith, fits .order); end = omega (arith, fits .end) }
 
   pub from-fits : n ≤ lines → Fits (bandFromLine n band) lines
   from-fits h = record { order = omega (arith, fits .order); end = omega (arith, fits .end) }
 
-pub row-below-sound : (n : ℕ) (row : Row) (lines : ℕ) → SoundRow row lines → SoundRow (rowBelow n row) lines
+pub row-below-sound : (n : ℕ) (row : Row) (lines : ℕ) → SoundRow row lines → SoundRow (rowBelowLine n row) lines
 row-below-sound n row lines sound =
     record { first-fits = below-fits n (row .first) lines (sound .first-fits); second-fits = below-fits n (row .second) lines (sound .second-fits) }
 
@@ -47,17 +46,15 @@ module _ (a n z : ℕ) (xs : List Float) (from : a ≤ n) (to : n ≤ z) (there 
   ys = take a xs ++ (first (part a n xs) ++ drop n xs)
 
   -- what stands below n then, and from n on
-  done : List Float
+  abbrev pub done : List Float
   done = take a xs ++ first (part a n xs)
 
-  done-length : length done ≡ n
-  unfolding done
+  pub done-length : length done ≡ n
   done-length =
       length-append (take a xs) _
       ∙ omega (arith, length-take-le a xs (omega arith), as-long, length-take-le (n - a) (drop a xs) (omega (arith, length-drop a xs)))
 
   in-parts : ys ≡ done ++ drop n xs
-  unfolding done
   in-parts = sym (append-assoc (take a xs) (first (part a n xs)) (drop n xs))
 
   below-n : take n ys ≡ done
@@ -76,7 +73,6 @@ module _ (a n z : ℕ) (xs : List Float) (from : a ≤ n) (to : n ≤ z) (there 
 
   in-two : both (part a n xs ++ part n z xs) ≡ first (part a n xs) ++ second (part n z xs)
       → take n ys ++ (second (part n z ys) ++ drop z ys) ≡ take a xs ++ (both (part a z xs) ++ drop z xs)
-  unfolding done
   in-two joined = rw (below-n, second-part, from-z, part-split a n z xs from to, joined) (simp append-assoc)
 
 -- ---- one filter in one band
@@ -99,25 +95,25 @@ module _ (lattice : Lattice) where
 
   -- no line goes through the lattice
   pub acted-none : (band : Band) → None band → (f : Filter) (run : Run) → acted band f run ≡ run
-  unfolding linesBy statesBy linesThrough stateThrough
   acted-none band e f run =
-      let none : band .start - band .start ≡ 0 = omega arith in
-      rw (e, none) (ap (λ (l : List Float). record { lines = l; states = run .states }) (take-append-drop (band .start) (run .lines)))
+      let stays = no-lines lattice band (sym e) f (run .states) (run .lines) in
+      ap (λ (l : List Float). record { lines = l; states = leaves lattice f (run .states) (inside band (run .lines)) }) (sym (stays .lines))
+      ∙ ap (λ (s : List Float). record { lines = run .lines; states = s }) (sym (stays .states))
 
   pub acted-length : (band : Band) (f : Filter) (run : Run) → Fits band (length (run .lines)) → length (acted band f run .lines) ≡ length (run .lines)
   acted-length band f run fits = within-length band (change lattice f (run .states)) (run .lines) fits (by-length lattice _ _ _ _)
 
   module _ (n : ℕ) where
     -- a band that starts at the line or after it lies beyond it whole, and one that stops there or before it lies below it whole
-    pub beyond : (band : Band) → band .start ≤ band .stop → n ≤ band .start → None (bandBelow n band) × Same (bandFromLine n band) band
+    pub beyond : (band : Band) → band .start ≤ band .stop → n ≤ band .start → None (bandBelowLine n band) × Same (bandFromLine n band) band
     beyond band order h = (omega arith, record { start = omega arith; stop = omega arith })
 
-    before : (band : Band) → band .start ≤ band .stop → band .stop ≤ n → Same (bandBelow n band) band × None (bandFromLine n band)
+    before : (band : Band) → band .start ≤ band .stop → band .stop ≤ n → Same (bandBelowLine n band) band × None (bandFromLine n band)
     before band order h = (record { start = omega arith; stop = omega arith }, omega arith)
 
     -- in a band that the line cuts
     between : (band : Band) (f : Filter) (run : Run) → n ≤ length (run .lines) → band .start ≤ n → n ≤ band .stop
-        → acted (bandFromLine n band) f (acted (bandBelow n band) f run) ≡ acted band f run
+        → acted (bandFromLine n band) f (acted (bandBelowLine n band) f run) ≡ acted band f run
     between band f run there from to =
         let xs = run .lines in
         let s = run .states in
@@ -140,16 +136,16 @@ module _ (lattice : Lattice) where
 
     -- whatever the line, a filter acts in two parts as it acts in one
     acted-in-two : (band : Band) (f : Filter) (run : Run) → Fits band (length (run .lines)) → n ≤ length (run .lines)
-        → acted (bandFromLine n band) f (acted (bandBelow n band) f run) ≡ acted band f run
+        → acted (bandFromLine n band) f (acted (bandBelowLine n band) f run) ≡ acted band f run
     acted-in-two band f run fits there = elim (decLt n (band .start)) [
       | yes early ↦
           let e = beyond band (fits .order) (omega arith) in
-          ap (acted (bandFromLine n band) f) (acted-none (bandBelow n band) (e .0) f run) ∙ acted-same (bandFromLine n band) band (e .1) f run
+          ap (acted (bandFromLine n band) f) (acted-none (bandBelowLine n band) (e .0) f run) ∙ acted-same (bandFromLine n band) band (e .1) f run
       | no from ↦
           elim (decLt (band .stop) n) [
             | yes late ↦
                 let e = before band (fits .order) (omega arith) in
-                acted-none (bandFromLine n band) (e .1) f _ ∙ acted-same (bandBelow n band) band (e .0) f run
+                acted-none (bandFromLine n band) (e .1) f _ ∙ acted-same (bandBelowLine n band) band (e .0) f run
             | no to ↦ between band f run there (omega arith) (omega arith)
           ]
     ]
@@ -161,16 +157,16 @@ module _ (lattice : Lattice) where
       once = acted (row .first) f run
 
       abbrev below : Run
-      below = acted (bandBelow n (row .first)) f run
+      below = acted (bandBelowLine n (row .first)) f run
 
       abbrev in-parts-of-both : Run
-      in-parts-of-both = acted (bandFromLine n (row .second)) g (acted (bandFromLine n (row .first)) f (acted (bandBelow n (row .second)) g below))
+      in-parts-of-both = acted (bandFromLine n (row .second)) g (acted (bandFromLine n (row .first)) f (acted (bandBelowLine n (row .second)) g below))
 
       -- the line is at the second band or before it: below it only the first filter acts
       line-before-second : n ≤ row .second .start → in-parts-of-both ≡ acted (row .second) g once
       line-before-second h =
           let e = beyond (row .second) (sound .second-fits .order) h in
-          ap (λ (r : Run). acted (bandFromLine n (row .second)) g (acted (bandFromLine n (row .first)) f r)) (acted-none (bandBelow n (row .second)) (e .0) g below)
+          ap (λ (r : Run). acted (bandFromLine n (row .second)) g (acted (bandFromLine n (row .first)) f r)) (acted-none (bandBelowLine n (row .second)) (e .0) g below)
           ∙ ap (acted (bandFromLine n (row .second)) g) (acted-in-two (row .first) f run (sound .first-fits) there)
           ∙ acted-same (bandFromLine n (row .second)) (row .second) (e .1) g once
 
@@ -180,7 +176,7 @@ module _ (lattice : Lattice) where
           let e = before (row .first) (sound .first-fits .order) h in
           let long = acted-length (row .first) f run (sound .first-fits) in
           ap (acted (bandFromLine n (row .second)) g) (acted-none (bandFromLine n (row .first)) (e .1) f _)
-          ∙ ap (λ (r : Run). acted (bandFromLine n (row .second)) g (acted (bandBelow n (row .second)) g r)) (acted-same (bandBelow n (row .first)) (row .first) (e .0) f run)
+          ∙ ap (λ (r : Run). acted (bandFromLine n (row .second)) g (acted (bandBelowLine n (row .second)) g r)) (acted-same (bandBelowLine n (row .first)) (row .first) (e .0) f run)
           ∙ acted-in-two (row .second) g once
           (record { order = sound .second-fits .order; end = omega (arith, sound .second-fits .end, long) }) (omega (arith, long))
 
@@ -189,7 +185,7 @@ module _ (lattice : Lattice) where
       no-second h =
           let order = sound .second-fits .order in
           acted-none (bandFromLine n (row .second)) (omega arith) g _
-          ∙ ap (acted (bandFromLine n (row .first)) f) (acted-none (bandBelow n (row .second)) (omega arith) g below)
+          ∙ ap (acted (bandFromLine n (row .first)) f) (acted-none (bandBelowLine n (row .second)) (omega arith) g below)
           ∙ acted-in-two (row .first) f run (sound .first-fits) there
           ∙ sym (acted-none (row .second) (omega arith) g once)
 
@@ -203,17 +199,16 @@ module _ (lattice : Lattice) where
     -- ---- the filters of a row
 
     module _ (row : Row) (turn : InTurn (row .first) (row .second)) (start xs : List Float) (sound : SoundRow row (length xs)) (there : n ≤ length xs) where
-      abbrev at-line : List Filter → Run
-      at-line filters = rowRun lattice (rowBelow n row) filters start xs
-
-      row-in-two : (filters : List Filter) → rowRun lattice (rowFromLine n row) filters (at-line filters .states) (at-line filters .lines) ≡ rowRun lattice row filters start xs
+      pub row-in-two : (filters : List Filter)
+          → rowRun lattice (rowFromLine n row) filters (rowRun lattice (rowBelowLine n row) filters start xs .states) (rowRun lattice (rowBelowLine n row) filters start xs .lines)
+          ≡ rowRun lattice row filters start xs
       unfolding bandsRun
       row-in-two [] = refl
       row-in-two (f ∷ []) = acted-in-two (row .first) f (record { lines = xs; states = start }) (sound .first-fits) there
       row-in-two (f ∷ g ∷ filters) = both-in-two row turn f g (record { lines = xs; states = start }) sound there
 
       -- two runs, one below the line and one from it on, are one
-      pub two-runs : (filters : List Filter) (before ys after zs : List Float) → FilteredRow lattice (rowBelow n row) filters start xs before ys
+      pub two-runs : (filters : List Filter) (before ys after zs : List Float) → FilteredRow lattice (rowBelowLine n row) filters start xs before ys
           → FilteredRow lattice (rowFromLine n row) filters before ys after zs → FilteredRow lattice row filters start xs after zs
       two-runs filters before ys after zs b c =
           let e = row-in-two filters in

@@ -13,11 +13,11 @@ abbrev pub eachBand : (Band → Band) → Row → Row
 eachBand cut row = record { first = cut (row .first); second = cut (row .second) }
 
 -- what of a band, and of a row, lies below line n
-abbrev pub bandBelow : ℕ → Band → Band
-bandBelow n = eachNumber (min n)
+abbrev pub bandBelowLine : ℕ → Band → Band
+bandBelowLine n = eachNumber (min n)
 
-abbrev pub rowBelow : ℕ → Row → Row
-rowBelow n = eachBand (bandBelow n)
+abbrev pub rowBelowLine : ℕ → Row → Row
+rowBelowLine n = eachBand (bandBelowLine n)
 
 -- what lies from line n on
 abbrev pub bandFromLine : ℕ → Band → Band

@@ -1,10 +1,10 @@
-// What the filters of a row do to a spectrum, for either lattice, and the laws of it: the decode call
-// and the encode call are its two instances. The code is only that which cuts a row at a line.
+// What the filters of a row do to a spectrum, for either lattice, and the laws of it: the decode calls
+// and the encode call are its instances. The code is only that which cuts a row at a line.
 use tns_rows::Band;
 use tns_rows::Row;
 ghost use mathlib.Core.Path.{_≡_};
 ghost use Prim.Native.Nat.{min, max};
-ghost use Rattle.tns_filters.specs.Split.{bandBelow, bandFromLine, rowBelow, rowFromLine};
+ghost use Rattle.tns_filters.specs.Split.{bandBelowLine, bandFromLine, rowBelowLine, rowFromLine};
 
 fn least(a: usize, b: usize) -> usize
     ensures { λ r. ⌜ r ≡ min a b ⌝ }
@@ -18,8 +18,8 @@ fn most(a: usize, b: usize) -> usize
     if a < b { b } else { a }
 }
 
-fn band_below(n: usize, band: Band) -> Band
-    ensures { λ r. ⌜ r ≡ bandBelow n band ⌝ }
+fn band_below_line(n: usize, band: Band) -> Band
+    ensures { λ r. ⌜ r ≡ bandBelowLine n band ⌝ }
 {
     Band {
         start: least(n, band.start),
@@ -41,12 +41,12 @@ fn band_from_line(n: usize, band: Band) -> Band
 }
 
 // The bands of a row as far as they lie below a line.
-pub fn row_below(n: usize, row: Row) -> Row
-    ensures { λ r. ⌜ r ≡ rowBelow n row ⌝ }
+pub fn row_below_line(n: usize, row: Row) -> Row
+    ensures { λ r. ⌜ r ≡ rowBelowLine n row ⌝ }
 {
     Row {
-        first: band_below(n, row.first),
-        second: band_below(n, row.second),
+        first: band_below_line(n, row.first),
+        second: band_below_line(n, row.second),
     }
 }
 

@@ -25,7 +25,7 @@ last-stop κs a x y s t p q = itself p q
 asked-band : Determined 0 asked-band-kinds.ps asked-band-kinds.r asked-band-reads.Post
 asked-band κs a x y s t p q = itself p q
 
-pub frameBack : (answer : FrameAnswer) → answerBack Sound Refused (frameSays answer) ≡ answer
+frameBack : (answer : FrameAnswer) → answerBack Sound Refused (frameSays answer) ≡ answer
 frameBack (Sound row) = refl
 frameBack (Refused why) = ap Refused (of-eight why .back)
 

@@ -2,6 +2,7 @@
 // what `apply_quantization` does in E, with tables in the place of sine and arcsine. Both tables
 // come from a sweep of the Rust (oracle/RESULTS.txt).
 ghost use mathlib.Core.Path.{_≡_};
+ghost use mathlib.Core.List.{map};
 ghost use Rattle.tns_index.specs.Quantizer.{indexOf, coefficientOf, orderOf, notAbove, thresholds};
 
 const COEFFICIENTS: [f32; 17] = [
@@ -74,6 +75,23 @@ pub fn coefficient_of(index: u8) -> f32
     }
     let i = index as usize;
     COEFFICIENTS[i]
+}
+
+// The coefficients of a filter's eight indices, for the decoder. The table is bound once: read by
+// `coefficient_of`, it would be written out for each of them. The decoder is its one caller, so that
+// the compiler puts it there: handed back through memory, the coefficients would not stay in registers
+// (docs/DECISIONS.md).
+pub fn eight_coefficients(indices: [u8; 8]) -> [f32; 8]
+    ensures { λ r. ⌜ r ≡ map coefficientOf indices ⌝ }
+{
+    let table = COEFFICIENTS;
+    let mut q = [0.0; 8];
+    for k in 0..8usize {
+        let index = indices[k] as usize;
+        let coefficient = if index < 17 { table[index] } else { 0.0 };
+        q[k] = coefficient;
+    }
+    q
 }
 
 // The order of a filter: its last place whose index is not 8, counted from 1, or 0.

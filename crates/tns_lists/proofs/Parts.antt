@@ -1,6 +1,6 @@
 -- Laws of the part of a list from a start to a stop: it is the same where both are cut at the list's end, it is what is left of the members before
 -- the stop, and it is its two parts at any place between.
-use mathlib.Core.Path.{_≡_, refl, sym, _∙_, ap}
+use mathlib.Core.Path.{_≡_, sym, _∙_, ap}
 use mathlib.Core.List.{List, [], _∷_, _++_}
 use Prim.Native.Nat.{ℕ, zero, suc, _+_, _-_, _≤_, _<_, min}
 use native.Mathlib.Decide.{decLt}

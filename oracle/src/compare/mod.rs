@@ -1,6 +1,6 @@
 //! The ways of comparing, each once.
 
-#[cfg(any(feature = "decode", feature = "encode"))]
+#[cfg(any(feature = "decode", feature = "restart", feature = "encode"))]
 pub mod refusals;
 mod same;
 pub mod strange;

@@ -1,12 +1,14 @@
-//! Calls that document 01 may refuse, against its table: what the port answers,
+//! Calls that may be refused, against the documents' table: what the port answers,
 //! and that a refused call changes nothing.
 
 use crate::compare::same::Differing;
 use crate::document::Answer;
+use std::ops::RangeInclusive;
 
 #[derive(Default)]
 pub struct Tally {
-    by_number: [u64; 8],
+    /// By the table's answer; the highest refusal is 17.
+    by_number: [u64; 18],
     wrong: u64,
     changed: u64,
     guards: u64,
@@ -36,9 +38,14 @@ impl Tally {
         });
     }
 
-    /// For a word with so many refusals: what a refused call could change, where
-    /// a call could write, and which original was asked.
-    pub fn print(&self, word: &str, most: usize, [what, beyond, original]: [&str; 3]) -> bool {
+    /// For a word with these refusals: whose table it is, what a refused call
+    /// could change, where a call could write, and which original was asked.
+    pub fn print(
+        &self,
+        word: &str,
+        refusals: &[RangeInclusive<usize>],
+        [whose, what, beyond, original]: [&str; 4],
+    ) -> bool {
         let Tally {
             wrong,
             changed,
@@ -47,8 +54,13 @@ impl Tally {
             ..
         } = self;
         let calls: u64 = self.by_number.iter().sum();
-        let (accepted, refused) = (self.by_number[0], &self.by_number[1..=most]);
-        println!("{word}: refusals: {calls} calls; by document 01's table accepted {accepted}, refused 1..{most} {refused:?}; {wrong} wrong answers, {changed} refused calls changed {what}, {guards} wrote beyond {beyond}, {differ} accepted ones differ from {original}");
+        let accepted = self.by_number[0];
+        let refused = refusals.iter().map(|numbers| {
+            let (first, last) = (numbers.start(), numbers.end());
+            format!("{first}..{last} {:?}", &self.by_number[numbers.clone()])
+        });
+        let refused = refused.collect::<Vec<_>>().join(", ");
+        println!("{word}: refusals: {calls} calls; by {whose} table accepted {accepted}, refused {refused}; {wrong} wrong answers, {changed} refused calls changed {what}, {guards} wrote beyond {beyond}, {differ} accepted ones differ from {original}");
         wrong + changed + guards + differ == 0
     }
 }

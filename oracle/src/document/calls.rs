@@ -6,6 +6,7 @@ use crate::document::rules::Filters;
 use crate::document::side::Side;
 
 /// A call of the decoder; the weighting is not used.
+#[derive(Clone)]
 pub struct Decode {
     pub row: &'static Row,
     pub side: Side,
@@ -19,6 +20,16 @@ impl Decode {
         filter < self.side.filters && filter < self.row.bands.len() && self.side.orders[filter] > 0
     }
 
+    /// A filter's indices below its order; none where it does not act.
+    pub fn acting(&self, filter: usize) -> &[usize] {
+        let (order, indices) = self.side.of(filter);
+        if self.acts(filter) {
+            &indices[..order]
+        } else {
+            &[]
+        }
+    }
+
     /// The places whose indices are used: those below the order of a filter that
     /// acts.
     pub fn used(&self) -> impl Iterator<Item = usize> + '_ {
@@ -29,6 +40,39 @@ impl Decode {
     /// Whether a used place holds index 0.
     pub fn uses_0(&self) -> bool {
         self.used().any(|place| self.side.indices[place] == 0)
+    }
+}
+
+/// A frame that was saved before a line, and the frame that is to be decoded again
+/// from that line on.
+pub struct Mended {
+    pub old: Decode,
+    pub new: Decode,
+    pub line: usize,
+}
+
+impl Mended {
+    /// Whether the frames agree as document 02 asks (C-22): on the row, the length,
+    /// the filter count, all lines below the line, and the orders and indices of
+    /// every filter whose band starts below it.
+    pub fn agree(&self) -> bool {
+        let Mended { old, new, line } = self;
+        let bits = |call: &Decode| -> Vec<u32> {
+            let below = call.lines[..*line].iter();
+            below.map(|x| x.to_bits()).collect()
+        };
+        let starts = old.row.bands.iter().map(|(start, _)| start);
+        let mut held = starts.enumerate().filter(|(_, start)| *start < line);
+        (old.row.place(), old.lines.len(), old.side.filters)
+            == (new.row.place(), new.lines.len(), new.side.filters)
+            && bits(old) == bits(new)
+            && held.all(|(filter, _)| old.side.of(filter) == new.side.of(filter))
+    }
+
+    /// Whether the line is the start of the second band.
+    pub fn at_second(&self) -> bool {
+        let second = self.old.row.bands.get(1);
+        second.is_some_and(|(start, _)| *start == self.line)
     }
 }
 

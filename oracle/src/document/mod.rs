@@ -1,7 +1,9 @@
 //! Document 01 written out in the harness: its rows, calls, refusals and rules,
-//! and its exact lattice. Nothing here is taken from the port.
+//! the decoder's lattice on a part of a frame (document 02, C-22), and the exact
+//! lattice. Nothing here is taken from the port.
 
 mod calls;
+mod decoder;
 #[cfg(feature = "error")]
 pub mod exact;
 pub mod refusals;
@@ -11,7 +13,7 @@ mod side;
 #[cfg(feature = "error")]
 pub mod whole;
 
-pub use calls::{Decode, Encode, Encoded, Outcome};
+pub use calls::{Decode, Encode, Encoded, Mended, Outcome};
 pub use refusals::{Answer, ACCEPTED};
 pub use rows::{Row, ROWS};
 pub use rules::Filters;

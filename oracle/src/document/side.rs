@@ -20,6 +20,12 @@ impl Side {
         }
     }
 
+    /// A filter's order and its eight indices, used or not.
+    pub fn of(&self, filter: usize) -> (usize, &[usize]) {
+        let indices = &self.indices[8 * filter..8 * filter + 8];
+        (self.orders[filter], indices)
+    }
+
     /// The 20 bytes that the port and the program have: weighting, filter count,
     /// orders, indices.
     pub fn record(&self) -> [u8; 20] {

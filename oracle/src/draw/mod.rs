@@ -8,8 +8,9 @@ pub mod encoder;
 pub mod hard;
 mod numbers;
 mod random;
+pub mod refused;
 pub mod spectra;
 pub mod steer;
 
-pub use numbers::{any_length, any_side, every_side, length, over};
+pub use numbers::{any_side, every_side, length, over};
 pub use random::{say_seed, two, Random, SEED};

@@ -23,6 +23,12 @@ pub const KINDS: [&str; 15] = [
     "constant or alternating",
 ];
 
+/// Any bit patterns, so that a NaN that is not touched is seen not to be.
+pub fn patterns(random: &mut Random, length: usize) -> Vec<f32> {
+    let pattern = |_| f32::from_bits(random.pattern());
+    (0..length).map(pattern).collect()
+}
+
 pub fn noise(random: &mut Random, lines: &mut [f32], scale: f32) {
     for line in lines {
         *line = random.unit() * scale;

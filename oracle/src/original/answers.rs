@@ -54,6 +54,14 @@ impl Build {
         lines
     }
 
+    /// D's coefficient of each index, that of index 0 by the same number.
+    pub fn decoder_coefficients(&self) -> [f32; 17] {
+        std::array::from_fn(|index| {
+            let number = if index == 0 { D_INDEX_0 } else { index };
+            (self.decoder_coefficient)(number)
+        })
+    }
+
     /// E's answer, or nothing if it panics.
     pub fn encoded(&self, call: &Encode) -> Option<Outcome> {
         let (row, bits, near) = (call.row, call.bits, call.near_nyquist);

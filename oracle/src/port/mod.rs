@@ -8,9 +8,13 @@ mod decoder;
 #[cfg(any(feature = "encode", feature = "lc3"))]
 mod encoder;
 mod lent;
+#[cfg(feature = "restart")]
+mod restart;
 
 #[cfg(any(feature = "decode", feature = "lc3"))]
 pub use decoder::{decode, decode_lines};
 #[cfg(any(feature = "encode", feature = "lc3"))]
 pub use encoder::{encode_lines, Loan};
 pub use lent::Lent;
+#[cfg(feature = "restart")]
+pub use restart::{restart_lines, save_lines, Desk, Door, Numbers};

@@ -12,7 +12,9 @@ mod error;
 mod lc3;
 mod lists;
 mod powi;
-#[cfg(feature = "lc3")]
+#[cfg(feature = "restart")]
+mod restart;
+#[cfg(feature = "speed")]
 mod speed;
 mod tables;
 
@@ -27,15 +29,17 @@ pub fn run(word: &str, root: &Path) -> Option<bool> {
         "lists" => lists::run(root),
         #[cfg(feature = "decode")]
         "decode" => decode::run(),
+        #[cfg(feature = "restart")]
+        "restart" => restart::run(),
         #[cfg(feature = "encode")]
         "encode" => encode::run(),
         #[cfg(feature = "error")]
         "error" => error::run(root),
         #[cfg(feature = "lc3")]
         "lc3" => lc3::run(),
-        #[cfg(feature = "lc3")]
+        #[cfg(feature = "speed")]
         "speed" => speed::times(),
-        #[cfg(feature = "lc3")]
+        #[cfg(feature = "speed")]
         "counts" => speed::counts(),
         _ => return None,
     })

@@ -1,20 +1,22 @@
 -- The refusal's own numbers, and no bits.
-use mathlib.Core.Path.{_≡_}
+use mathlib.Core.Path.{_≡_, _∙_}
 use Prim.Native.Nat.{ℕ}
 use borrow.Author.Needs.{needs}
-use Rattle.tns_refusals.specs.Refusals.{refused, numberOf, placeOf, foundOf, noBits, says}
+use Rattle.tns_refusals.specs.Refusals.{placed, refused, numberOf, placeOf, foundOf, noBits, says}
 use Rattle.tns_refusals.specs.declared.Refusal.{Refusal}
 use Rattle.tns.specs.Answers.{answerFor}
 use Rattle.tns.proofs.refused.Statement.{statement}
 use Rattle.tns.proofs.refused.Tie as tie
 
 own-numbers : (why : Refusal) (n p f : ℕ) → n ≡ numberOf (says why) → p ≡ placeOf (says why) → f ≡ foundOf (says why)
-    → record { refusal = n; place = p; found = f; bits = 0 } ≡ answerFor noBits (refused (says why))
+    → answerFor noBits (refused (placed n p f)) ≡ answerFor noBits (refused (says why))
 own-numbers why n p f en ep ef = cc
 
 returns : tie.Need-returns
 returns c =
-    own-numbers (c .before .before .before .args .why) _ _ _ (c .before .before .number .ensures) (c .before .place .ensures) (c .found .ensures)
+    let read = c .before in
+    c .told .ensures
+    ∙ own-numbers (read .before .before .before .args .why) _ _ _ (read .before .before .number .ensures) (read .before .place .ensures) (read .found .ensures)
 
 pub refused-spec : {M : Type 1} → statement M
 refused-spec =
@@ -26,4 +28,5 @@ refused-spec =
     (λ c. search needs)
     (λ c κs. search needs)
     (λ c. search needs)
+    (λ c κs. search needs)
     returns)

@@ -1,11 +1,10 @@
 -- The line from both sides, and then the output.
-use mathlib.Core.Path.{_≡_, refl, _∙_, ap}
+use mathlib.Core.Path.{_≡_}
 use Prim.Native.Nat.{ℕ, _<_, _≤_}
 use native.Mathlib.Omega.{arith}
 use borrow.Author.Needs.{needs}
 use borrow.Author.Tests.{lt-ltb, le-ltb, eq-eqb, ne-eqb}
-use lib.Dec.{eqb}
-use Rattle.tns_refusals.specs.Refusals.{numbered, accepted, refused}
+use Rattle.tns_refusals.specs.Refusals.{numbered, refused, noFault}
 use Rattle.tns_rows.specs.Bands.{lastStop}
 use Rattle.tns_rows.specs.declared.row.Row.{Row}
 use Rattle.tns_calls.specs.Calls.{lineChecks}
@@ -13,18 +12,18 @@ use Rattle.tns_calls.proofs.check_line.Statement.{statement}
 use Rattle.tns_calls.proofs.check_line.Tie as tie
 
 module _ (row : Row) (lines n output : ℕ) where
-  too-low : n < row .first .start → refused (numbered 16) ≡ lineChecks row lines n output (accepted row)
+  too-low : n < row .first .start → refused (numbered 16) ≡ lineChecks row lines n output noFault
   too-low h = simp (lt-ltb _ _ h)
 
   module _ (from : row .first .start ≤ n) where
-    too-high : lastStop row < n → refused (numbered 16) ≡ lineChecks row lines n output (accepted row)
+    too-high : lastStop row < n → refused (numbered 16) ≡ lineChecks row lines n output noFault
     too-high h = simp (le-ltb _ _ from, lt-ltb _ _ h)
 
     module _ (to : n ≤ lastStop row) where
-      other-length : (output ≡ lines → ⊥) → refused (numbered 17) ≡ lineChecks row lines n output (accepted row)
+      other-length : (output ≡ lines → ⊥) → refused (numbered 17) ≡ lineChecks row lines n output noFault
       other-length h = simp (le-ltb _ _ from, le-ltb _ _ to, ne-eqb _ _ h)
 
-      fine : output ≡ lines → accepted row ≡ lineChecks row lines n output (accepted row)
+      fine : output ≡ lines → noFault ≡ lineChecks row lines n output noFault
       fine h = simp (le-ltb _ _ from, le-ltb _ _ to, eq-eqb _ _ h)
 
 returns : tie.Need-returns

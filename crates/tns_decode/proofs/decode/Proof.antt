@@ -1,37 +1,44 @@
--- A call that is refused, or the decoded spectrum.
-use mathlib.Core.Path.{_≡_, sym, _∙_, ap, subst}
+-- A frame that is refused, side data that are refused, or the decoded spectrum.
+use mathlib.Core.Path.{_≡_, sym, _∙_, ap}
 use borrow.Author.Needs.{needs}
 use lib.ListN.{length}
-use Rattle.tns_refusals.specs.Refusals.{accepted, says}
+use Rattle.tns_refusals.specs.Refusals.{accepted, noFault, says, sideChecks, sideSays}
+use Rattle.tns_refusals.proofs.Sides.{sound-side}
+use Rattle.tns_frames.specs.Frames.{frameOf, frameSays}
 use Rattle.tns_rows.specs.declared.row.Row.{Row}
-use Rattle.tns_rows.proofs.Bands.{SoundRow}
-use Rattle.tns_frames.specs.Frames.{frameSays}
-use Rattle.tns_calls.specs.Calls.{callOf}
+use Rattle.tns_frames.proofs.Frames.{sound-row}
 use Rattle.tns_decode.specs.Decoder.{rowDecoded}
-use Rattle.tns_decode.proofs.DecodeVerdict.{call-refused, call-passed, call-sound, refused-spectrum, accepted-spectrum}
+use Rattle.tns_decode.proofs.DecodeVerdict.{frame-refused, frame-passed, refused-spectrum, accepted-spectrum}
 use Rattle.tns_decode.proofs.decode.Statement.{statement}
 use Rattle.tns_decode.proofs.decode.Tie as tie
 
--- the call passed, with its row
+-- the frame passed, with its row
 passed : (c : tie.After-frame2) →
     let g = c .before .before .before .before .before .before .args in
-    accepted (c .frame2 .given .0 .0) ≡ callOf (g .duration) (g .bandwidth) (g .filters) (g .orders .now) (g .indices .now) (length (g .lines .now))
-passed c = sym (ap frameSays (c .frame2 .given .1)) ∙ c .before .before .check-call .ensures
+    accepted (c .frame2 .given .0 .0) ≡ frameOf (g .duration) (g .bandwidth) (length (g .lines .now))
+passed c = sym (ap frameSays (c .frame2 .given .1)) ∙ c .before .before .check-frame .ensures
+
+-- the side data passed too
+side-passed : (c : tie.After-enum-told) →
+    let g = c .before .before .before .before .before .before .before .before .before .before .args in
+    noFault ≡ sideChecks (g .filters) (g .orders .now) (g .indices .now) noFault
+side-passed c = sym (ap sideSays (c .enum-told .given .1)) ∙ c .before .before .check-side .ensures
 
 row-decoded-requires : tie.Need-row-decoded-requires
 row-decoded-requires c κs =
-    let frame = c .before .before in
-    let g = frame .before .before .before .before .before .before .args in
-    let rest = call-passed (g .duration) (g .bandwidth) (g .filters) (g .orders .now) (g .indices .now) (length (g .lines .now)) _ (passed frame) in
-    let sound = call-sound (g .duration) (g .bandwidth) (g .filters) (g .orders .now) (g .indices .now) (length (g .lines .now)) (rest .1) in
-    (subst (λ (row : Row). SoundRow row (length (g .lines .now))) (sym (rest .0)) (sound .bands), sound .side-data)
+    let told = c .before in
+    let frame = told .before .before .before .before in
+    let g = frame .before .before .before .before .before .before .args in (
+      sound-row (g .duration) (g .bandwidth) (length (g .lines .now)) (frame .frame2 .given .0 .0) (sym (passed frame)),
+      sound-side (g .filters) (g .orders .now) (g .indices .now) (sym (side-passed told)),
+    )
 
 returns : tie.Need-returns
 returns c =
     let g = c .before .before .before .before .before .before .before .args in
     let why = says (c .before .frame .given .0 .0) in
-    let e = call-refused (g .duration) (g .bandwidth) (g .filters) (g .orders .now) (g .indices .now) (length (g .lines .now)) why
-    (sym (ap frameSays (c .before .frame .given .1)) ∙ c .before .before .before .check-call .ensures)
+    let e = frame-refused (g .duration) (g .bandwidth) (g .filters) (g .orders .now) (g .indices .now) (length (g .lines .now)) why
+    (sym (ap frameSays (c .before .frame .given .1)) ∙ c .before .before .before .check-frame .ensures)
     in
     record { answer = e; lines = refused-spectrum (g .duration) (g .bandwidth) (g .filters) (g .orders .now) (g .indices .now) (g .lines .now) why e }
 
@@ -39,13 +46,24 @@ returns-2 : tie.Need-returns-2
 returns-2 c =
     let frame = c .before .before .before .before .before in
     let g = frame .before .before .before .before .before .before .args in
-    let rest = call-passed (g .duration) (g .bandwidth) (g .filters) (g .orders .now) (g .indices .now) (length (g .lines .now)) _ (passed frame) in
+    let why = says (c .before .side .given .0 .0) in
+    let rest = frame-passed (g .duration) (g .bandwidth) (g .filters) (g .orders .now) (g .indices .now) (length (g .lines .now)) (frame .frame2 .given .0 .0) (passed frame) in
+    let e = sym (ap sideSays (c .before .side .given .1)) ∙ c .before .before .before .check-side .ensures ∙ sym (rest .1) in
+    record { answer = e; lines = refused-spectrum (g .duration) (g .bandwidth) (g .filters) (g .orders .now) (g .indices .now) (g .lines .now) why e }
+
+returns-3 : tie.Need-returns-3
+returns-3 c =
+    let told = c .before .before .before .before in
+    let frame = told .before .before .before .before in
+    let g = frame .before .before .before .before .before .before .args in
+    let rest = frame-passed (g .duration) (g .bandwidth) (g .filters) (g .orders .now) (g .indices .now) (length (g .lines .now)) (frame .frame2 .given .0 .0) (passed frame) in
+    let e = side-passed told ∙ sym (rest .1) in
     record {
-      answer = sym (rest .1);
+      answer = e;
       lines =
           c .before .before .row-decoded .ensures
           ∙ ap (λ (row : Row). rowDecoded row (g .filters) (g .orders .now) (g .indices .now) (g .lines .now)) (rest .0)
-          ∙ accepted-spectrum (g .duration) (g .bandwidth) (g .filters) (g .orders .now) (g .indices .now) (g .lines .now) (sym (rest .1));
+          ∙ accepted-spectrum (g .duration) (g .bandwidth) (g .filters) (g .orders .now) (g .indices .now) (g .lines .now) e;
     }
 
 pub decode-spec : {M : Type 1} → statement M
@@ -55,7 +73,11 @@ decode-spec =
     (λ c κs. search needs)
     (λ c. search needs)
     (λ c. search needs)
+    (λ c κs. search needs)
+    (λ c. search needs)
+    (λ c. search needs)
     row-decoded-requires
     returns
+    returns-2
     (λ c. search needs)
-    returns-2)
+    returns-3)

@@ -3,108 +3,15 @@
 //! that turn out accepted are compared with D.
 
 use crate::compare::{first_change, first_difference, refusals::Tally};
-use crate::document::{refusals, Answer, Decode, Row, Side, ACCEPTED, ROWS};
-use crate::draw::{any_length, over, Random, SEED};
+use crate::document::ACCEPTED;
+use crate::draw::refused::{any, each_alone, together, Input};
+use crate::draw::{spectra::patterns, Random, SEED};
 use crate::original::Build;
 use crate::port::{decode_lines, Lent};
 
 /// Draws for each set of faults and each row.
 const DRAWS: usize = 100;
 const ANY: usize = 300_000;
-
-#[derive(Clone)]
-struct Input {
-    duration: u8,
-    bandwidth: u8,
-    filters: u8,
-    orders: Vec<u8>,
-    indices: Vec<u8>,
-    length: usize,
-}
-
-/// A byte list of random length, but not `but`.
-fn other_length(random: &mut Random, but: usize) -> Vec<u8> {
-    let length = random.below(2 * but + 2);
-    let length = if length == but { 0 } else { length };
-    (0..length).map(|_| random.below(256) as u8).collect()
-}
-
-impl Input {
-    /// A call that document 01 accepts.
-    fn good(random: &mut Random, row: &Row) -> Self {
-        Input {
-            duration: row.duration,
-            bandwidth: row.bandwidth,
-            filters: random.below(3) as u8,
-            orders: (0..2).map(|_| random.below(9) as u8).collect(),
-            indices: (0..16).map(|_| random.below(17) as u8).collect(),
-            length: any_length(random, row),
-        }
-    }
-
-    /// Makes the call bad in the way of one refusal, where what was done
-    /// before leaves room for it.
-    fn spoil(&mut self, random: &mut Random, row: &Row, refusal: usize) {
-        match refusal {
-            1 => self.duration = over(random, 1),
-            2 => self.bandwidth = over(random, 4),
-            3 => {
-                self.length = match random.below(5) {
-                    0 => row.last_stop() - 1,
-                    1 => row.longest() + 1,
-                    2 => random.below(row.last_stop()),
-                    3 => 0,
-                    _ => row.longest() + 1 + random.below(600),
-                }
-            }
-            4 => {
-                let which = random.below(3);
-                if which != 0 {
-                    self.orders = other_length(random, 2);
-                }
-                if which != 1 {
-                    self.indices = other_length(random, 16);
-                }
-            }
-            5 => self.filters = over(random, 2),
-            6 => spoil_places(random, &mut self.orders, 8),
-            _ => spoil_places(random, &mut self.indices, 16),
-        }
-    }
-
-    /// The call of an input that document 01 accepts.
-    fn call(&self, lines: Vec<f32>) -> Option<Decode> {
-        let numbers = [&[0, self.filters], &self.orders[..], &self.indices].concat();
-        Some(Decode {
-            row: Row::of(self.duration, self.bandwidth)?,
-            side: Side::of_record(numbers[..].try_into().ok()?),
-            kind: 0,
-            lines,
-        })
-    }
-
-    fn by_table(&self) -> Answer {
-        refusals::spectrum(self.duration, self.bandwidth, self.length)
-            .or_else(|| refusals::side(self.filters, &self.orders, &self.indices))
-            .unwrap_or(ACCEPTED)
-    }
-}
-
-/// One place, or any places, over the limit.
-fn spoil_places(random: &mut Random, list: &mut [u8], most: usize) {
-    if list.is_empty() {
-        return;
-    }
-    let at = random.below(list.len());
-    list[at] = over(random, most);
-    if random.once_in(2) {
-        for place in list.iter_mut() {
-            if random.once_in(4) {
-                *place = over(random, most);
-            }
-        }
-    }
-}
 
 struct Calls<'a> {
     build: &'a Build,
@@ -123,9 +30,7 @@ impl Calls<'_> {
         } = *input;
         let (orders, indices) = (&input.orders, &input.indices);
         let wanted = input.by_table();
-        // Any bit patterns, so that an untouched NaN is seen to be untouched.
-        let mut line = || f32::from_bits(self.random.pattern());
-        let before: Vec<f32> = (0..length).map(|_| line()).collect();
+        let before = patterns(&mut self.random, length);
         let mut lent = Lent::new(&before);
         let given = decode_lines(duration, bandwidth, filters, orders, indices, lent.lend());
         let other = if wanted == ACCEPTED {
@@ -142,91 +47,18 @@ impl Calls<'_> {
     }
 }
 
-/// Every value of every number alone, every length, every pair of list lengths.
-fn each_alone(calls: &mut Calls, random: &mut Random) {
-    for row in &ROWS {
-        let good = Input::good(random, row);
-        let mut with = |change: &dyn Fn(&mut Input)| {
-            let mut input = good.clone();
-            change(&mut input);
-            calls.take(&input);
-        };
-        for n in 0..=255u8 {
-            with(&|input| input.duration = n);
-            with(&|input| input.bandwidth = n);
-            for place in 0..2 {
-                for filters in 0..=2 {
-                    with(&|input| (input.filters, input.orders[place]) = (filters, n));
-                }
-            }
-            with(&|input| input.orders = vec![n, 255 - n]);
-            for place in 0..16 {
-                with(&|input| input.indices[place] = n);
-                with(&|input| (input.indices[place], input.indices[15 - place]) = (n, 255 - n));
-            }
-            with(&|input| input.filters = n);
-            with(&|input| (input.filters, input.orders[0], input.indices[15]) = (n, 9, 17));
-        }
-        for length in 0..=row.longest() + 8 {
-            with(&|input| input.length = length);
-        }
-        for orders in 0..=5 {
-            for indices in 0..=33 {
-                with(&|input| {
-                    input.orders = vec![1; orders];
-                    input.indices = vec![9; indices];
-                });
-            }
-        }
-        with(&|input| {
-            (input.orders, input.indices) = (Vec::new(), Vec::new());
-            input.length = 0;
-        });
-    }
-}
-
-/// Every set of the seven faults, on every row.
-fn together(calls: &mut Calls, random: &mut Random) {
-    for faults in 0..128 {
-        for row in &ROWS {
-            for _ in 0..DRAWS {
-                let mut input = Input::good(random, row);
-                for refusal in (1..=7).filter(|r| faults >> (r - 1) & 1 == 1) {
-                    input.spoil(random, row, refusal);
-                }
-                calls.take(&input);
-            }
-        }
-    }
-}
-
-/// Numbers mostly inside their limits or one beyond.
-fn any(calls: &mut Calls, random: &mut Random) {
-    for _ in 0..ANY {
-        let near = |random: &mut Random, most: usize| {
-            let beyond = usize::from(random.once_in(40));
-            (random.below(most + 1) + beyond) as u8
-        };
-        calls.take(&Input {
-            duration: near(random, 1),
-            bandwidth: near(random, 4),
-            filters: near(random, 2),
-            orders: vec![near(random, 8), near(random, 8)],
-            indices: (0..16).map(|_| near(random, 16)).collect(),
-            length: random.below(410),
-        });
-    }
-}
-
 pub fn run(build: &Build) -> bool {
     let mut calls = Calls {
         build,
         random: Random(!SEED),
         tally: Tally::default(),
     };
-    let mut random = Random(SEED);
-    each_alone(&mut calls, &mut random);
-    together(&mut calls, &mut random);
-    any(&mut calls, &mut random);
-    calls.tally.print("decode", 7, ["a line", "the lines", "D"])
+    let random = &mut Random(SEED);
+    each_alone(random, |input| calls.take(input));
+    together(random, DRAWS, |input| calls.take(input));
+    for _ in 0..ANY {
+        calls.take(&any(random));
+    }
+    let said = ["document 01's", "a line", "the lines", "D"];
+    calls.tally.print("decode", &[1..=7], said)
 }

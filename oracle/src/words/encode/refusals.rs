@@ -86,5 +86,6 @@ pub fn run(build: &Build) -> bool {
         }
     }
     let changed = "a line, side byte or coefficient";
-    tally.print("encode", 3, [changed, "what was lent", "E"])
+    let said = ["document 01's", changed, "what was lent", "E"];
+    tally.print("encode", &[1..=3], said)
 }

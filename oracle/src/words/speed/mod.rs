@@ -10,6 +10,9 @@
 //! bandwidth, what is run, the orders met, then the ns a call of the port, of
 //! the port guarded, of the crate, of the Rust and of liblc3. A label of `counts`
 //! has the first four and then whose call it is and how often it was made.
+//!
+//! After these come lines and labels of restart, which only the port has: they are
+//! of four calls of its exports, told at the function.
 
 mod callgrind;
 // The guard's own text, as it lies from the build folder,
@@ -22,7 +25,7 @@ use crate::document::{Row, Side, ACCEPTED, ROWS};
 use crate::draw::{bands::bands, Random, SEED};
 use crate::liblc3::{analyze, synthesize, Data};
 use crate::original::{both, Build};
-use crate::port::{decode_lines, encode_lines};
+use crate::port::{decode_lines, encode_lines, restart_lines, save_lines, Numbers};
 use gillsextant::{Bandwidth, Duration};
 use std::ffi::CString;
 use std::hint::black_box;
@@ -62,26 +65,27 @@ struct Frames {
 /// The least times met so far: what is measured, then the orders met and the
 /// times, the first of a call that does nothing.
 #[derive(Default)]
-struct Least(Vec<(String, String, Times)>);
-
-type Times = [f64; 6];
+struct Least(Vec<(String, String, Vec<f64>)>);
 
 impl Least {
-    fn keep(&mut self, name: &str, met: &str, times: Times) {
+    fn keep(&mut self, name: &str, met: &str, times: &[f64]) {
         match self.0.iter_mut().find(|entry| entry.0 == name) {
             Some(entry) => {
                 for (least, time) in entry.2.iter_mut().zip(times) {
-                    *least = least.min(time);
+                    *least = least.min(*time);
                 }
             }
-            None => self.0.push((name.to_string(), met.to_string(), times)),
+            None => {
+                let entry = (name.to_string(), met.to_string(), times.to_vec());
+                self.0.push(entry);
+            }
         }
     }
 
     fn print(&self) {
-        for (name, met, [nothing, times @ ..]) in &self.0 {
-            let times = times.map(|t| format!("{:.2}", t - nothing));
-            println!("{name}\t{met}\t{}", times.join("\t"));
+        for (name, met, times) in &self.0 {
+            let times = times[1..].iter().map(|t| format!("{:.2}", t - times[0]));
+            println!("{name}\t{met}\t{}", times.collect::<Vec<_>>().join("\t"));
         }
     }
 }
@@ -156,7 +160,7 @@ fn measure(
         frames.count(&format!("{name}\tliblc3\t{FRAMES}"), &mut lc3);
         return;
     };
-    let mut least: Times = [f64::INFINITY; 6];
+    let mut least = [f64::INFINITY; 6];
     for _ in 0..ROUNDS {
         least[0] = least[0].min(frames.time(&mut nothing));
         least[1] = least[1].min(frames.time(&mut port));
@@ -165,7 +169,7 @@ fn measure(
         least[4] = least[4].min(frames.time(&mut original));
         least[5] = least[5].min(frames.time(&mut lc3));
     }
-    times.keep(name, met, least);
+    times.keep(name, met, &least);
 }
 
 /// Frames whose bands all get a filter, and the same one from all three.
@@ -296,6 +300,85 @@ fn decode(sink: &mut Sink, row: &Row, order: usize, build: &Build, random: &mut 
     );
 }
 
+/// Parts of a frame at order 8 with both filters counted, by turns: a whole decode
+/// in place; a restart at the middle of the lines from the first band's start to
+/// the last stop; a copy of the spectrum into the output with a whole decode there;
+/// a save before that line. A line of `speed` has the fields restart, duration code,
+/// bandwidth, the line, the order and the ns a call of the four; a label of `counts`
+/// has the first four, one of decode, restart, copy and save, and how often it was
+/// made.
+///
+/// All find the lines fresh in the same memory. Of what is written beside them
+/// there is one for all frames: a restart takes as long from one frame's states as
+/// from another's.
+fn restart(sink: &mut Sink, row: &Row, random: &mut Random) {
+    let drawn = (0..FRAMES).map(|_| {
+        let mut lines = Lines([0.0; 400]);
+        bands(random, row, &mut lines.0[..row.last_stop()], 0, 10);
+        lines
+    });
+    let mut frames = Frames::new(drawn.collect(), row);
+    let mut side = Side::plain(0, 0);
+    (side.filters, side.orders) = (2, [8, 8]);
+    side.indices.fill_with(|| 6 + random.below(5));
+    let record = side.record();
+    let numbers = Numbers::of(row, &record);
+    let whole = |lines: &mut [f32]| {
+        let (orders, indices) = (numbers.orders, numbers.indices);
+        decode_lines(row.duration, row.bandwidth, 2, orders, indices, lines)
+    };
+    let (length, line) = (frames.length, (row.first_start() + row.last_stop()) / 2);
+    let mut outputs = [(); 3].map(|()| Lines([0.0; 400]));
+    let [again, copied, saved] = outputs.each_mut().map(|lines| &mut lines.0[..length]);
+    let (mut states, mut given) = ([0.0; 8], [0.0; 8]);
+
+    let first = &mut frames.used[0].0[..length];
+    let answers = [
+        save_lines(numbers, first, saved, line, &mut states),
+        restart_lines(numbers, first, again, line, &mut states),
+        whole(first),
+    ];
+    let refused = "the port refuses a frame of the bench";
+    assert_eq!(answers, [ACCEPTED; 3], "{refused}");
+    assert_eq!(first, saved, "save and decode differ");
+    assert_eq!(first[line..], again[line..], "restart and decode differ");
+
+    let mut nothing = |lines: &mut [f32]| {
+        black_box(lines);
+    };
+    let mut decode = |lines: &mut [f32]| {
+        black_box(whole(lines));
+    };
+    let mut restart = |lines: &mut [f32]| {
+        black_box(restart_lines(numbers, lines, again, line, &mut states));
+    };
+    let mut copy = |lines: &mut [f32]| {
+        copied.copy_from_slice(lines);
+        black_box(whole(copied));
+    };
+    let mut save = |lines: &mut [f32]| {
+        black_box(save_lines(numbers, lines, saved, line, &mut given));
+    };
+    let name = format!("restart\t{}\t{}\tat {line}", row.duration, row.bandwidth);
+    let Sink::Times(times) = sink else {
+        frames.count(&format!("{name}\tnothing\t{FRAMES}"), &mut nothing);
+        frames.count(&format!("{name}\tdecode\t{FRAMES}"), &mut decode);
+        frames.count(&format!("{name}\trestart\t{FRAMES}"), &mut restart);
+        frames.count(&format!("{name}\tcopy\t{FRAMES}"), &mut copy);
+        frames.count(&format!("{name}\tsave\t{FRAMES}"), &mut save);
+        return;
+    };
+    let mut least = [f64::INFINITY; 5];
+    for _ in 0..ROUNDS {
+        least[0] = least[0].min(frames.time(&mut nothing));
+        least[1] = least[1].min(frames.time(&mut decode));
+        least[2] = least[2].min(frames.time(&mut restart));
+        least[3] = least[3].min(frames.time(&mut copy));
+        least[4] = least[4].min(frames.time(&mut save));
+    }
+    times.keep(&name, "8", &least);
+}
+
 /// Every measurement once, on the same frames each time.
 fn pass(sink: &mut Sink, build: &Build) {
     let mut random = Random(SEED);
@@ -310,6 +393,9 @@ fn pass(sink: &mut Sink, build: &Build) {
         for order in 0..=8 {
             decode(sink, row, order, build, &mut random);
         }
+    }
+    for row in &ROWS {
+        restart(sink, row, &mut random);
     }
 }
 

@@ -1,0 +1,2 @@
+-- The laws of a mended frame.
+pub mod Mended
