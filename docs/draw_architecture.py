@@ -16,8 +16,8 @@ PICTURE = DOCS / "architecture.svg"
 BOTTOM = ["tns_refusals", "tns_lists", "tns_rounding"]
 ACROSS = {
     "tns_program": 0, "tns_wording": 0, "tns_bits": 0,
-    "tns_tables": 1.2, "tns_cost": 1.2, "tns_side": 2.1, "tns_index": 2.5,
-    "tns_decode": 4.1, "tns_frames": 4.3, "tns_rows": 4.6, "tns_exact": 4.95,
+    "tns_tables": 1.2, "tns_cost": 1.2, "tns_side": 1.9, "tns_index": 2.5,
+    "tns_decode": 4.1, "tns_calls": 2.95, "tns_mending": 2.9, "tns_frames": 4.3, "tns_rows": 4.6, "tns_exact": 5.2,
     "tns_filters": 5.55, "tns_lattices": 6.0, "tns_encode": 6.3, "tns_round_trip": 3.3, "tns": 4.4, "replay": 4.4,
     "tns_lags": 6.7, "tns_recursion": 7.55, "tns_analysis": 7.3, "tns_examples": 7.3, "tns_reflections": 8.55,
 }
@@ -25,8 +25,8 @@ SAYS = {
     "tns_refusals": "verdicts, checks 4 to 7", "tns_lists": "lists, lines in place", "tns_rounding": "f32 operations",
     "tns_program": "reading, writing, text", "tns_wording": "a record's line", "tns_bits": "the program",
     "tns_tables": "table T", "tns_cost": "bits, 20-byte records", "tns_side": "side data",
-    "tns_index": "index, coefficient", "tns_exact": "demand 3", "tns_rows": "durations, bands", "tns_frames": "checks 1 to 3",
-    "tns_lattices": "one band", "tns_filters": "the bands of a row", "tns_decode": "the decode call",
+    "tns_index": "index, coefficient", "tns_exact": "demand 3", "tns_rows": "durations, bands", "tns_frames": "checks 1 to 3", "tns_calls": "checks 16, 17", "tns_mending": "save, then restart",
+    "tns_lattices": "one band", "tns_filters": "the bands of a row", "tns_decode": "decode, save, restart",
     "tns_lags": "autocorrelation", "tns_recursion": "predictor, gain", "tns_reflections": "step-down", "tns_analysis": "a filter, a frame",
     "tns_encode": "the encode call", "tns_round_trip": "encode, then decode", "tns": "what C and Rust link", "tns_examples": "worked cases", "replay": "the lists",
 }

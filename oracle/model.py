@@ -466,7 +466,7 @@ def left_alone(patterns):
 
 
 def answered(tables, call, across=False):
-    """Document 01's answer to a call, and the f32s that it gave an index to."""
+    """The documents' answer to a call, and the f32s that it gave an index to."""
     rules = [index_call, cost_call, decode_call, encode_call, save_call, restart_call]
     return rules[call.call](tables, call, across)
 
