@@ -6,7 +6,7 @@ use Prim.Native.Nat.{ℕ, _+_, _-_, _*_}
 use lib.Dec.{ltb}
 use lib.Ieee.{Float}
 use lib.ListN.{length}
-use Rattle.tns_refusals.specs.Refusals.{Verdict, accepted, refused, check, says, unlessRefused}
+use Rattle.tns_refusals.specs.Refusals.{Verdict, accepted, refused, check, codeChecks, says, unlessRefused}
 use Rattle.tns_rows.specs.Durations.{durationOf, numbersOf}
 use Rattle.tns_rows.specs.Bands.{rowOf, bandOf, noBand, lastStop, inside}
 use Rattle.tns_rows.specs.declared.duration.Duration.{Duration}
@@ -19,13 +19,9 @@ use Rattle.tns_frames.specs.declared.FrameAnswer.the-variants.{Sound, Re
 abbrev pub lengthCheck : {A : Type 0} → Duration → ℕ → ℕ → Verdict A → Verdict A
 lengthCheck duration bandwidth lines next = check 3 (ltb lines (lastStop (rowOf duration bandwidth)) || ltb (numbersOf duration .longest) lines) next
 
--- 1: duration code is not 0 or 1. 2: bandwidth over 4. 3: the length
+-- 1 and 2: the codes. 3: the length
 unfoldable pub frameChecks : {A : Type 0} → ℕ → ℕ → ℕ → Verdict A → Verdict A
-frameChecks duration bandwidth lines next =
-    check 1 (ltb 1 duration)
-    (check 2 (ltb 4 bandwidth)
-    (lengthCheck (durationOf duration) bandwidth lines
-    next))
+frameChecks duration bandwidth lines next = codeChecks duration bandwidth (lengthCheck (durationOf duration) bandwidth lines next)
 
 -- what the shared check of 1 to 3 says: the row of a frame that it finds no fault with
 abbrev pub frameSays : FrameAnswer → Verdict Row

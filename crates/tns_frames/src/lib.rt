@@ -1,6 +1,8 @@
 // The frames of encode and decode: checks 1 to 3, and the part of a caller's own spectrum that a band
 // is.
 use tns_refusals::Refusal;
+use tns_refusals::SideAnswer;
+use tns_refusals::check_codes;
 use tns_rows::Band;
 use tns_rows::Duration;
 use tns_rows::Row;
@@ -47,16 +49,16 @@ fn frame_of(duration: Duration, bandwidth: u8, lines: usize) -> FrameAnswer
 pub fn check_frame(duration: u8, bandwidth: u8, lines: usize) -> FrameAnswer
     ensures { λ r. ⌜ frameSays r ≡ frameOf duration bandwidth lines ⌝ }
 {
-    if duration > 1 {
-        return FrameAnswer::Refused(Refusal::Duration);
+    let codes = check_codes(duration, bandwidth);
+    match codes {
+        SideAnswer::Refused(why) => FrameAnswer::Refused(why),
+        SideAnswer::Sound => {
+            if duration == 0 {
+                return frame_of(Duration::Ten, bandwidth, lines);
+            }
+            frame_of(Duration::SevenPointFive, bandwidth, lines)
+        }
     }
-    if bandwidth > 4 {
-        return FrameAnswer::Refused(Refusal::Bandwidth);
-    }
-    if duration == 0 {
-        return frame_of(Duration::Ten, bandwidth, lines);
-    }
-    frame_of(Duration::SevenPointFive, bandwidth, lines)
 }
 
 // The band of a filter in a row, and none of a third filter.

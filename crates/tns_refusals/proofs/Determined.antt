@@ -19,6 +19,10 @@ use Rattle.tns_refusals.proofs.Refusal.place.Kinds as place-kinds
 use Rattle.tns_refusals.proofs.Refusal.place.Reads as place-reads
 use Rattle.tns_refusals.proofs.Refusal.found.Kinds as found-kinds
 use Rattle.tns_refusals.proofs.Refusal.found.Reads as found-reads
+use Rattle.tns_refusals.proofs.none_over.Kinds as none-over-kinds
+use Rattle.tns_refusals.proofs.none_over.Reads as none-over-reads
+use Rattle.tns_refusals.proofs.codes.check_codes.Kinds as check-codes-kinds
+use Rattle.tns_refusals.proofs.codes.check_codes.Reads as check-codes-reads
 use Rattle.tns_refusals.proofs.check_side.Kinds as check-side-kinds
 use Rattle.tns_refusals.proofs.check_side.Reads as check-side-reads
 
@@ -55,6 +59,9 @@ place κs a x y s t p q = itself p q
 found : Determined 0 found-kinds.ps found-kinds.r found-reads.Post
 found κs a x y s t p q = itself p q
 
+none-over : Determined 1 none-over-kinds.ps none-over-kinds.r none-over-reads.Post
+none-over κs a x y s t p q = itself p q
+
 -- ---- an answer that says the paper's numbers
 
 -- the answer back from its verdict
@@ -68,3 +75,6 @@ sideBack (Refused why) = ap Refused (of-eight why .back)
 
 check-side : Determined 2 check-side-kinds.ps check-side-kinds.r check-side-reads.Post
 check-side κs a x y s t p q = coincide sideSays (answerBack (λ u. Sound) Refused) sideBack p q
+
+check-codes : Determined 0 check-codes-kinds.ps check-codes-kinds.r check-codes-reads.Post
+check-codes κs a x y s t p q = coincide sideSays (answerBack (λ u. Sound) Refused) sideBack p q

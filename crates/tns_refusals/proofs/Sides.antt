@@ -1,4 +1,4 @@
--- Laws of the shared checks 4 to 7: what they leave to the checks after them, and what is known once they find no fault.
+-- Laws of the shared checks 1 and 2, and 4 to 7: what they leave to the checks after them, and what is known once they find no fault.
 use mathlib.Core.Path.{_≡_, refl, sym, ap}
 use mathlib.Core.Bool.{Bool, true, false, _||_, not, cond}
 use mathlib.Core.List.{List, [], _∷_}
@@ -7,7 +7,7 @@ use native.Mathlib.Omega.{arith}
 use lib.Dec.{ltb, eqb}
 use borrow.Author.Tests.{ltb-false}
 use lib.ListN.{length, getD}
-use Rattle.tns_refusals.specs.Refusals.{Fault, Verdict, accepted, refused, noFault, check, checkAt, sideChecks, lowestOver, SoundSide}
+use Rattle.tns_refusals.specs.Refusals.{Fault, Verdict, accepted, refused, noFault, check, checkAt, codeChecks, sideChecks, lowestOver, SoundSide}
 use Rattle.tns_refusals.specs.declared.Over.{Over}
 use Rattle.tns_refusals.specs.declared.Over.the-variants.{Nowhere, At}
 use Rattle.tns_refusals.proofs.Checks.{sides-by}
@@ -45,6 +45,14 @@ sides-settle {A} filters orders indices next =
     cases false false (At p f) i = refl
     cases false false Nowhere (At p f) = refl
     cases false false Nowhere Nowhere = refl
+
+pub codes-settle : {A : Type 0} (duration bandwidth : ℕ) (next : Verdict A) → codeChecks duration bandwidth next ≡ settle (codeChecks duration bandwidth noFault) next
+codes-settle {A} duration bandwidth next = cases (ltb 1 duration) (ltb 4 bandwidth)
+  where
+    cases : (a b : Bool) → check 1 a (check 2 b next) ≡ settle (check 1 a (check 2 b noFault)) next
+    cases true b = refl
+    cases false true = refl
+    cases false false = refl
 
 -- what is known once they find no fault
 pub sound-side : (filters : ℕ) (orders indices : List ℕ) → sideChecks filters orders indices noFault ≡ noFault → SoundSide filters orders indices

@@ -1,4 +1,4 @@
--- Document 01, "Refusal numbers": what a call answers, in the paper's numbers, and the checks that decide 4 to 7.
+-- Document 01, "Refusal numbers": what a call answers, in the paper's numbers, and the checks that decide 1 and 2, and 4 to 7.
 use mathlib.Core.Path.{_≡_}
 use mathlib.Core.Bool.{Bool, true, false, _||_, not, cond}
 use mathlib.Core.List.{List, [], _∷_}
@@ -95,6 +95,10 @@ isNowhere (At place found) = false
 abbrev pub checkAt : {A : Type 0} → ℕ → Over → Verdict A → Verdict A
 checkAt number Nowhere next = next
 checkAt number (At place found) next = refused (placed number place found)
+
+-- 1: duration code is not 0 or 1. 2: bandwidth over 4
+abbrev pub codeChecks : {A : Type 0} → ℕ → ℕ → Verdict A → Verdict A
+codeChecks duration bandwidth next = check 1 (ltb 1 duration) (check 2 (ltb 4 bandwidth) next)
 
 -- 4: orders not 2 long, or indices not 16 long. 5: filter count over 2. 6: an order over 8, used or not. 7: an index over 16, used or not
 unfoldable pub sideChecks : {A : Type 0} → ℕ → List ℕ → List ℕ → Verdict A → Verdict A

@@ -1,5 +1,8 @@
-// The refusals of document 01, for every call of the library, and the one place that decides 4 to 7,
-// for decode and cost.
+// The refusals of document 01, for every call of the library, and the one place that decides 1 and 2,
+// and 4 to 7, for all that have a frame's codes or side data.
+mod codes;
+
+pub use codes::check_codes;
 ghost use mathlib.Core.Path.{_≡_};
 ghost use mathlib.Core.Bool.{false};
 ghost use Rattle.tns_refusals.specs.Refusals.{noFault, says, numberOf, placeOf, foundOf, lowestOver, isNowhere, sideChecks, sideSays};
@@ -75,7 +78,7 @@ pub enum Over {
 
 // Whether no number is over `limit`. It has no early way out, so that the compiler can compare them
 // all at once.
-fn none_over(numbers: &[u8], limit: u8) -> bool
+pub fn none_over(numbers: &[u8], limit: u8) -> bool
     ensures { λ r. ⌜ r ≡ isNowhere (lowestOver limit 0 (now (numbers .entry))) ⌝ }
 {
     let mut none = true;
@@ -110,7 +113,7 @@ fn lowest_over(numbers: &[u8], limit: u8) -> Over
     first_over(numbers, limit)
 }
 
-// What the checks 4 to 7 say.
+// What the checks 1 and 2, or 4 to 7, say.
 pub enum SideAnswer {
     Sound,
     Refused(Refusal),

@@ -1,31 +1,28 @@
--- Each return goes through the checks before it, in number order.
-use mathlib.Core.Path.{_≡_, refl, _∙_}
-use Prim.Native.Nat.{ℕ, zero, suc, _<_, _≤_}
+-- What the checks of the codes refuse is refused; what is left is check 3, with the duration's own numbers.
+use mathlib.Core.Path.{_≡_, refl, sym, _∙_, ap}
+use Prim.Native.Nat.{ℕ, zero, suc}
 use borrow.Author.Needs.{needs}
-use borrow.Author.Tests.{lt-ltb, le-ltb}
-use Rattle.tns_refusals.specs.Refusals.{numbered, accepted, refused}
+use Rattle.tns_refusals.specs.Refusals.{Verdict, accepted, refused, noFault, codeChecks, sideSays}
+use Rattle.tns_refusals.proofs.Sides.{settle, codes-settle}
 use Rattle.tns_rows.specs.Durations.{durationOf}
 use Rattle.tns_rows.specs.declared.duration.Duration.{Duration}
 use Rattle.tns_rows.specs.declared.duration.Duration.the-variants.{Ten, SevenPointFive}
+use Rattle.tns_rows.specs.declared.row.Row.{Row}
 use Rattle.tns_frames.specs.Frames.{frameOf, frameChecks, lengthCheck}
 use Rattle.tns_rows.specs.Bands.{rowOf}
 use Rattle.tns_frames.proofs.check_frame.Statement.{statement}
 use Rattle.tns_frames.proofs.check_frame.Tie as tie
 
 module _ (duration bandwidth lines : ℕ) where
-  duration-fails : 1 < duration → refused (numbered 1) ≡ frameOf duration bandwidth lines
+  abbrev by-length : Duration → Verdict Row
+  by-length d = lengthCheck d bandwidth lines (accepted (rowOf d bandwidth))
+
+  codes-first : (codes : Verdict (Unit {0})) → codes ≡ codeChecks duration bandwidth noFault → settle codes (by-length (durationOf duration)) ≡ frameOf duration bandwidth lines
   unfolding frameOf frameChecks
-  duration-fails h = simp (lt-ltb _ _ h)
+  codes-first codes e = ap (λ (v : Verdict (Unit {0})). settle v (by-length (durationOf duration))) e ∙ sym (codes-settle duration bandwidth (by-length (durationOf duration)))
 
-  module _ (known : duration ≤ 1) where
-    bandwidth-fails : 4 < bandwidth → refused (numbered 2) ≡ frameOf duration bandwidth lines
-    unfolding frameOf frameChecks
-    bandwidth-fails h = simp (le-ltb _ _ known, lt-ltb _ _ h)
-
-    -- what is left is check 3, with the duration's own numbers
-    length-left : bandwidth ≤ 4 → (d : Duration) → d ≡ durationOf duration → lengthCheck d bandwidth lines (accepted (rowOf d bandwidth)) ≡ frameOf duration bandwidth lines
-    unfolding frameOf frameChecks
-    length-left narrow d e = rw (e, le-ltb 1 duration known, le-ltb 4 bandwidth narrow) refl
+  length-left : noFault ≡ codeChecks duration bandwidth noFault → (d : Duration) → d ≡ durationOf duration → lengthCheck d bandwidth lines (accepted (rowOf d bandwidth)) ≡ frameOf duration bandwidth lines
+  length-left codes d e = ap by-length e ∙ codes-first noFault codes
 
 ten : (duration : ℕ) → duration ≡ 0 → Ten ≡ durationOf duration
 ten duration e = rw e refl
@@ -34,37 +31,40 @@ seven-point-five : (duration : ℕ) → (duration ≡ 0 → ⊥) → SevenPointF
 seven-point-five zero e = absurd (e refl)
 seven-point-five (suc duration) e = refl
 
+-- codes without a fault
+sound : (c : tie.After-enum-told) →
+    let g = c .before .before .before .args in
+    noFault ≡ codeChecks (g .duration) (g .bandwidth) noFault
+sound c = sym (ap sideSays (c .enum-told .given .1)) ∙ c .before .before .check-codes .ensures
+
 returns : tie.Need-returns
 returns c =
-    let g = c .before .args in
-    duration-fails (g .duration) (g .bandwidth) (g .lines) (c .if1 .taken)
+    let told = c .before .before in
+    let g = told .before .before .before .args in
+    c .frame-of .ensures ∙ length-left (g .duration) (g .bandwidth) (g .lines) (sound told) Ten (ten (g .duration) (c .before .if1 .taken))
 
 returns-2 : tie.Need-returns-2
 returns-2 c =
-    let g = c .before .before .args in
-    bandwidth-fails (g .duration) (g .bandwidth) (g .lines) (c .before .if1 .left) (c .if2 .taken)
+    let told = c .before in
+    let called = told .before .before in
+    let g = called .before .args in
+    codes-first (g .duration) (g .bandwidth) (g .lines) (refused _) (sym (ap sideSays (told .codes .given .1)) ∙ called .check-codes .ensures)
 
 returns-3 : tie.Need-returns-3
 returns-3 c =
-    let tests = c .before .before in
-    let g = tests .before .before .args in
-    c .frame-of .ensures
-    ∙ length-left (g .duration) (g .bandwidth) (g .lines) (tests .before .if1 .left) (tests .if2 .left) Ten (ten (g .duration) (c .before .if3 .taken))
-
-returns-4 : tie.Need-returns-4
-returns-4 c =
-    let tests = c .before .before in
-    let g = tests .before .before .args in
-    c .frame-of2 .ensures
-    ∙ length-left (g .duration) (g .bandwidth) (g .lines) (tests .before .if1 .left) (tests .if2 .left) SevenPointFive (seven-point-five (g .duration) (c .before .if3 .left))
+    let told = c .before .before in
+    let g = told .before .before .before .args in
+    c .frame-of2 .ensures ∙ length-left (g .duration) (g .bandwidth) (g .lines) (sound told) SevenPointFive (seven-point-five (g .duration) (c .before .if1 .left))
 
 pub check-frame-spec : {M : Type 1} → statement M
 check-frame-spec =
     tie.close
     (tie.spec
+    (λ c κs. search needs)
+    (λ c. search needs)
+    (λ c. search needs)
+    (λ c κs. search needs)
     returns
+    (λ c κs. search needs)
     returns-2
-    (λ c κs. search needs)
-    returns-3
-    (λ c κs. search needs)
-    returns-4)
+    returns-3)
