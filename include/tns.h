@@ -1,4 +1,4 @@
-/* LC3 temporal noise shaping: the five functions of libtns.a (x86-64), made by `rt staticlib tns`.
+/* LC3 temporal noise shaping: the seven functions of libtns.a (x86-64), made by `rt staticlib tns`.
  *
  * Every call is answered, whatever numbers and list lengths are passed. A refused call leaves every list
  * as it was. What is asked of the caller is what C cannot check: a pointer is good for its length (and
@@ -10,9 +10,9 @@
  * rounding to nearest, no flush-to-zero, no denormals-are-zero and all exceptions masked. Audio threads
  * are often run otherwise. There tns_decode and tns_decode_restart can leave other lines,
  * tns_decode_save other lines and states, and tns_encode other lines, side data, coefficients and bits;
- * an exception that is not masked can end the process. Refusals and tns_cost are whole numbers and stay
- * the same. examples/float_environment.c guards a call in a few lines; the Rust crate guards each of its
- * calls.
+ * an exception that is not masked can end the process. Refusals, tns_cost and the two block calls are
+ * whole numbers and stay the same. examples/float_environment.c guards a call in a few lines; the Rust
+ * crate guards each of its calls.
  */
 #ifndef TNS_H
 #define TNS_H
@@ -25,8 +25,8 @@
 extern "C" {
 #endif
 
-/* Why a call was refused: the first of these that applies, by number. The numbers 9 to 15 belong to
- * calls that are not in this header. */
+/* Why a call was refused: the first of these that applies, by number. 9 to 12 belong to the block calls,
+ * which give no other. The numbers 13 to 15 belong to calls that are not in this header. */
 enum {
     TNS_ACCEPTED = 0,
     TNS_DURATION = 1,        /* neither 0 (10 ms) nor 1 (7.5 ms) */
@@ -37,6 +37,10 @@ enum {
     TNS_ORDER = 6,           /* an order over 8: place 0 or 1 */
     TNS_INDEX = 7,           /* an index over 16: place 0 to 15 */
     TNS_WEIGHTING = 8,       /* over 1 */
+    TNS_BLOCK_LENGTH = 9,    /* a block cut short, or one whose number is over 65535 */
+    TNS_BLOCK_SUMS = 10,     /* the bytes have other sums than the block says */
+    TNS_BLOCK_LAYOUT = 11,   /* wrong header, another number than asked for, or fill that is not zero */
+    TNS_BLOCK_RECORD = 12,   /* a record breaks a limit or is cut short, or its bits are not its cost */
     TNS_LINE = 16,           /* below the row's first start, or over its last stop */
     TNS_OUTPUT_LENGTH = 17   /* not the spectrum's */
 };
@@ -92,6 +96,59 @@ tns_answer tns_decode_restart(uint8_t duration, uint8_t bandwidth, uint8_t filte
 /* The bits of side data. Refusals 4 to 8. */
 tns_answer tns_cost(uint8_t weighting, uint8_t filters, const uint8_t *orders, size_t orders_len,
                     const uint8_t *indices, size_t indices_len);
+
+/* A narration: the side data of many frames, kept in a file of blocks. A record of one frame is 24
+ * bytes, in memory as in the file:
+ *
+ *     0      duration, 0 or 1
+ *     1      bandwidth, 0 to 4
+ *     2      filter count, 0 to 2
+ *     3      weighting, 0 or 1
+ *     4-5    two orders, 0 to 8
+ *     6-21   sixteen indices, 0 to 16
+ *     22-23  the bits that tns_cost gives for them, low byte first
+ *
+ * A record is sound if each number is in its range, used or not, and the bits are the cost. A block is
+ * 512 bytes:
+ *
+ *     0-1      the block's number, low byte first
+ *     2        how many records it has, 1 to 20
+ *     3        the edition, 1
+ *     4-7      zeros
+ *     8-507    the records, then zeros
+ *     508-509  the sum of bytes 0 to 507, modulo 65521, low byte first
+ *     510-511  the sum of (508 - place) * byte over the same bytes, modulo 65521, low byte first
+ *
+ * So one byte that changes, whichever it is, makes a block that is refused. Blocks are numbered from 0,
+ * and a file has at most 65536 of them. A file without records has no bytes. A writer fills every block
+ * but the last; a reader takes any count from 1 to 20 in any block. Both go through a file a block at a
+ * time and stop at the first that is refused, and the blocks before it stand: examples/narration.c. */
+enum {
+    TNS_RECORD_SIZE = 24,    /* bytes of a record */
+    TNS_BLOCK_SIZE = 512,    /* bytes of a block */
+    TNS_BLOCK_CAPACITY = 20  /* records of a full block: 480 bytes */
+};
+
+typedef struct {
+    uint16_t refusal; /* 0: accepted */
+    uint16_t records; /* of an accepted call, how many the block has; else 0 */
+} tns_block_answer;
+
+/* Writes the first 20 records of a list, or all where there are fewer, as the block of this number. The
+ * length is in bytes; what comes after the first 480 is not looked at. Refusals 9 (the number is over
+ * 65535) and 12 (a record that is taken is not sound, or the last is cut short). An accepted call writes
+ * all 512 bytes and answers how many records it has taken. An empty list is no block: it is accepted
+ * with 0 records, whatever the number, and nothing is written. */
+tns_block_answer tns_block_write(uint64_t number, const uint8_t *records, size_t records_len,
+                                 uint8_t block[512]);
+
+/* Checks a block, which must have this number, and gives its records. What comes after the first 512
+ * bytes is not looked at. Refusals 9 (fewer than 512 bytes, or the number is over 65535), then 10 to 12.
+ * An accepted call writes 24 bytes for each record, from the first on, and leaves the rest of the 480 as
+ * it was. No bytes are the end of a file: accepted with 0 records, whatever the number, and nothing is
+ * written. */
+tns_block_answer tns_block_read(uint64_t number, const uint8_t *block, size_t block_len,
+                                uint8_t records[480]);
 
 #ifdef __cplusplus
 }

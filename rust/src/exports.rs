@@ -1,5 +1,5 @@
-//! The library's five functions as C sees them. The contracts of these functions are proved; that the
-//! shapes here are theirs is for a reader to see in `crates/tns/src/lib.rt`.
+//! The library's seven functions as C sees them. The contracts of these functions are proved; that the
+//! shapes here are theirs is for a reader to see in `crates/tns/src/`.
 
 /// What a call answers: refusal 0 says that it is accepted.
 #[derive(Clone, Copy)]
@@ -9,6 +9,14 @@ pub struct Answer {
     pub place: u16,
     pub found: u16,
     pub bits: u16,
+}
+
+/// What a call on a block answers.
+#[derive(Clone, Copy)]
+#[repr(C)]
+pub struct BlockAnswer {
+    pub refusal: u16,
+    pub records: u16,
 }
 
 extern "C" {
@@ -71,4 +79,16 @@ extern "C" {
         indices: *const u8,
         indices_len: usize,
     ) -> Answer;
+    pub fn tns_block_write(
+        number: u64,
+        records: *const u8,
+        records_len: usize,
+        block: *mut [u8; 512],
+    ) -> BlockAnswer;
+    pub fn tns_block_read(
+        number: u64,
+        block: *const u8,
+        block_len: usize,
+        records: *mut [u8; 480],
+    ) -> BlockAnswer;
 }

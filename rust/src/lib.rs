@@ -22,19 +22,29 @@
 //! When the upper part of a frame changes, [`decode_restart`] decodes that part alone, from what
 //! [`decode_save`] has saved.
 //!
+//! [`narration`] keeps the side data of many frames in a file, in blocks that tell when a byte has
+//! changed.
+//!
 //! A call may be made in any float environment, as from an audio thread with flush-to-zero and
 //! denormals-are-zero set: it works in the default one, and the thread has its own again afterwards.
 //!
 //! Coming from lc3-codec: [`encoder::temporal_noise_shaping`] and [`decoder::temporal_noise_shaping`]
 //! have its names. They answer with a `Result` where it panics. One index is decoded otherwise: 0 is
 //! the coefficient that the encoder wrote it for, where lc3-codec's decoder takes it for no coefficient.
+//!
+//! The feature `std`, which is on by default, adds the writer and the reader of whole narrations. All
+//! else is `no_std`.
 #![no_std]
 #![deny(missing_docs)]
+
+#[cfg(feature = "std")]
+extern crate std;
 
 pub mod decoder;
 pub mod encoder;
 mod exports;
 mod float;
+pub mod narration;
 mod refusal;
 mod restart;
 mod sys;
@@ -107,6 +117,35 @@ impl Bandwidth {
             Bandwidth::SemiSuperWideBand => 2,
             Bandwidth::SuperWideBand => 3,
             Bandwidth::FullBand => 4,
+        }
+    }
+}
+
+/// The duration of a code, as a record of a narration has it: 0 or 1. Any other is refused.
+impl TryFrom<u8> for Duration {
+    type Error = Refusal;
+
+    fn try_from(code: u8) -> Result<Self, Refusal> {
+        match code {
+            0 => Ok(Duration::TenMs),
+            1 => Ok(Duration::SevenPointFiveMs),
+            _ => Err(Refusal::Duration),
+        }
+    }
+}
+
+/// The bandwidth of a code, as a record of a narration has it: 0 to 4. Any other is refused.
+impl TryFrom<u8> for Bandwidth {
+    type Error = Refusal;
+
+    fn try_from(code: u8) -> Result<Self, Refusal> {
+        match code {
+            0 => Ok(Bandwidth::NarrowBand),
+            1 => Ok(Bandwidth::WideBand),
+            2 => Ok(Bandwidth::SemiSuperWideBand),
+            3 => Ok(Bandwidth::SuperWideBand),
+            4 => Ok(Bandwidth::FullBand),
+            _ => Err(Refusal::Bandwidth),
         }
     }
 }

@@ -3,7 +3,8 @@
 use core::fmt;
 
 /// Why a call was refused. Where several reasons hold, the one with the lowest number is given, and of
-/// several bad places the lowest.
+/// several bad places the lowest. The numbers 9 to 12 belong to blocks of a narration:
+/// [`BlockRefusal`](crate::narration::BlockRefusal).
 #[derive(Clone, Copy, Debug, PartialEq, Eq)]
 pub enum Refusal {
     /// 1: the duration is neither 10 ms nor 7.5 ms.
@@ -55,8 +56,8 @@ impl Refusal {
         }
     }
 
-    /// The library's numbers for a refused call: 1 to 8, 16 and 17. Its five functions give no other;
-    /// one would be taken for 8.
+    /// The library's numbers for a refused call: 1 to 8, 16 and 17. Its functions on spectra and side
+    /// data give no other; one would be taken for 8.
     pub(crate) fn of(number: u16, place: u16, found: u16) -> Self {
         match number {
             1 => Refusal::Duration,

@@ -1,11 +1,13 @@
-//! The only calls of the library's five functions. All five are called in the default float
+//! The only calls of the library's seven functions. All seven are called in the default float
 //! environment (`float`), so that nobody has to know which of them compute with floats. All but the
-//! encoder's are inlined: handing nine arguments on would take longer than a decoder's call without a
-//! filter, and those that save and restart have more.
+//! encoder's and those on blocks are inlined: handing nine arguments on would take longer than a
+//! decoder's call without a filter, and those that save and restart have more.
 
 use crate::exports::{
-    tns_cost, tns_decode, tns_decode_restart, tns_decode_save, tns_encode, Answer,
+    tns_block_read, tns_block_write, tns_cost, tns_decode, tns_decode_restart, tns_decode_save,
+    tns_encode, Answer, BlockAnswer,
 };
+use crate::narration::BlockRefusal;
 use crate::{float, Encoded, Refusal, SideData};
 
 impl Answer {
@@ -23,6 +25,15 @@ impl Answer {
     #[inline(never)]
     fn why(self) -> Refusal {
         Refusal::of(self.refusal, self.place, self.found)
+    }
+}
+
+impl BlockAnswer {
+    fn accepted(self) -> Result<usize, BlockRefusal> {
+        match self.refusal {
+            0 => Ok(self.records.into()),
+            number => Err(BlockRefusal::of(number)),
+        }
     }
 }
 
@@ -174,4 +185,28 @@ pub fn cost(weighting: u8, filters: u8, orders: &[u8], indices: &[u8]) -> Result
     });
     answer.accepted()?;
     Ok(answer.bits)
+}
+
+pub fn block_write(
+    number: u64,
+    records: &[u8],
+    block: &mut [u8; 512],
+) -> Result<usize, BlockRefusal> {
+    // Sound as above.
+    let answer = float::in_default(move || unsafe {
+        tns_block_write(number, records.as_ptr(), records.len(), block)
+    });
+    answer.accepted()
+}
+
+pub fn block_read(
+    number: u64,
+    block: &[u8],
+    records: &mut [u8; 480],
+) -> Result<usize, BlockRefusal> {
+    // Sound as above.
+    let answer = float::in_default(move || unsafe {
+        tns_block_read(number, block.as_ptr(), block.len(), records)
+    });
+    answer.accepted()
 }

@@ -7,6 +7,7 @@
 
 use gillsextant::decoder::temporal_noise_shaping::apply_temporal_noise_shaping;
 use gillsextant::encoder::temporal_noise_shaping::TemporalNoiseShaping;
+use gillsextant::narration::{read_block, write_block, BlockRefusal};
 use gillsextant::{
     cost, decode, decode_restart, decode_save, encode, Bandwidth, Duration, Refusal, Saved,
 };
@@ -313,6 +314,37 @@ fn cost_unguarded(word: u32, orders: [u8; 2]) -> [u16; 4] {
     numbers(answer)
 }
 
+/// The record of this row and these orders and indices, and the block 7 that it makes.
+fn narrated() -> ([u8; 24], [u8; 512]) {
+    let bits = cost(0, 1, &ORDERS, &INDICES).expect("the side data are accepted");
+    let mut record = [0; 24];
+    record[..6].copy_from_slice(&[CODES.0, CODES.1, 1, 0, ORDERS[0], ORDERS[1]]);
+    record[6..22].copy_from_slice(&INDICES);
+    record[22..].copy_from_slice(&bits.to_le_bytes());
+    let mut block = [0; 512];
+    assert_eq!(write_block(7, &record, &mut block), Ok(1));
+    (record, block)
+}
+
+/// A block's two numbers, as the others' four.
+fn block_numbers(answer: unguarded::BlockAnswer) -> [u16; 2] {
+    [answer.refusal, answer.records]
+}
+
+fn write_unguarded(word: u32, records: &[u8], block: &mut [u8; 512]) -> [u16; 2] {
+    let (answer, _) = within(word, || unsafe {
+        unguarded::tns_block_write(7, records.as_ptr(), records.len(), block)
+    });
+    block_numbers(answer)
+}
+
+fn read_unguarded(word: u32, block: &[u8], records: &mut [u8; 480]) -> [u16; 2] {
+    let (answer, _) = within(word, || unsafe {
+        unguarded::tns_block_read(7, block.as_ptr(), block.len(), records)
+    });
+    block_numbers(answer)
+}
+
 fn falling(loudest: f32) -> Vec<f32> {
     (0..LINES as i32)
         .map(|n| loudest * 0.95f32.powi(n))
@@ -478,6 +510,33 @@ fn refusals_and_cost_are_the_same_unguarded() {
                 cost_unguarded(DEFAULT, ORDERS)
             );
         }
+    }
+}
+
+/// Blocks by the crate and, as include/tns.h says of C, without the guard: what is written and read, what
+/// is refused, and the environment afterwards.
+#[test]
+fn blocks_are_the_same() {
+    let (record, wanted) = narrated();
+    let cut = &wanted[..511];
+    for word in environments() {
+        let (mut block, mut records) = ([0; 512], [0; 480]);
+        let answer = within(word, || write_block(7, &record, &mut block));
+        assert_eq!((answer, block), ((Ok(1), word), wanted));
+        let answer = within(word, || read_block(7, &wanted, &mut records));
+        assert_eq!((answer, &records[..24]), ((Ok(1), word), &record[..]));
+        let refused = within(word, || read_block(7, cut, &mut records));
+        assert_eq!(refused, (Err(BlockRefusal::Length), word));
+        let refused = within(word, || write_block(7, &record[1..], &mut block));
+        assert_eq!(refused, (Err(BlockRefusal::Record), word));
+
+        let (mut block, mut records) = ([0; 512], [0; 480]);
+        assert_eq!(write_unguarded(word, &record, &mut block), [0, 1]);
+        assert_eq!(block, wanted);
+        assert_eq!(read_unguarded(word, &wanted, &mut records), [0, 1]);
+        assert_eq!(records[..24], record);
+        assert_eq!(write_unguarded(word, &record[1..], &mut block), [12, 0]);
+        assert_eq!(read_unguarded(word, cut, &mut records), [9, 0]);
     }
 }
 

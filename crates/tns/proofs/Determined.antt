@@ -13,6 +13,10 @@ use Rattle.tns.proofs.tns_decode_restart.Kinds as tns-decode-restart-ki
 use Rattle.tns.proofs.tns_decode_restart.Reads as tns-decode-restart-reads
 use Rattle.tns.proofs.tns_encode.Kinds as tns-encode-kinds
 use Rattle.tns.proofs.tns_encode.Reads as tns-encode-reads
+use Rattle.tns.proofs.blocks.tns_block_write.Kinds as tns-block-write-kinds
+use Rattle.tns.proofs.blocks.tns_block_write.Reads as tns-block-write-reads
+use Rattle.tns.proofs.blocks.tns_block_read.Kinds as tns-block-read-kinds
+use Rattle.tns.proofs.blocks.tns_block_read.Reads as tns-block-read-reads
 use Rattle.tns.proofs.tns_cost.Kinds as tns-cost-kinds
 use Rattle.tns.proofs.tns_cost.Reads as tns-cost-reads
 
@@ -43,3 +47,10 @@ tns-encode-side κs a x y s t p q = (itself (p .answer) (q .answer), itself (p .
 tns-encode-coefficients :
     DeterminedWith 3 tns-encode-kinds.ps tns-encode-kinds.r tns-encode-reads.Post (List Float) (λ κs s. s .1 .1 .1 .1 .1 .1 .0 .now)
 tns-encode-coefficients κs a x y s t p q = (itself (p .answer) (q .answer), itself (p .coefficients) (q .coefficients))
+
+-- the block, and the records
+tns-block-write : DeterminedWith 2 tns-block-write-kinds.ps tns-block-write-kinds.r tns-block-write-reads.Post (List ℕ) (λ κs s. s .1 .1 .0 .now)
+tns-block-write κs a x y s t p q = (itself (p .answer) (q .answer), itself (p .bytes) (q .bytes))
+
+tns-block-read : DeterminedWith 2 tns-block-read-kinds.ps tns-block-read-kinds.r tns-block-read-reads.Post (List ℕ) (λ κs s. s .1 .1 .0 .now)
+tns-block-read κs a x y s t p q = (itself (p .answer) (q .answer), itself (p .bytes) (q .bytes))

@@ -1,6 +1,11 @@
 // The one crate whose functions C and Rust call. A slice passes as its pointer and length, and an
 // answer by value. Each function takes any numbers and lists and is its inner door: the answer's
 // numbers are those of the door's definition.
+mod blocks;
+
+pub use blocks::BlockTold;
+pub use blocks::tns_block_read;
+pub use blocks::tns_block_write;
 use tns_calls::LineRefusal;
 use tns_cost::CostAnswer;
 use tns_cost::cost;

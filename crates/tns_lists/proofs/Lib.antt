@@ -2,6 +2,7 @@
 pub mod Every
 pub mod Counted
 pub mod Parts
+pub mod Portions
 pub mod InPlace
 pub mod Filled
 pub mod Tab

@@ -3,3 +3,4 @@ pub mod Every
 pub mod Counted
 pub mod Lines
 pub mod Places
+pub mod Portions

@@ -1,4 +1,5 @@
 // Standard input and output in large pieces.
+use libc::STDERR_FILENO;
 use libc::STDIN_FILENO;
 use libc::STDOUT_FILENO;
 ghost use mathlib.Core.Path.{_≡_};
@@ -6,7 +7,7 @@ ghost use Prim.Native.Nat.{_+_, _≤_};
 ghost use lib.ListN.{length, take, drop};
 ghost use Rattle.tns_program.specs.Pieces.{ReadAfter};
 
-// The descriptor that the launcher opens for a program to say that something failed.
+// The descriptor that the launcher opens for a program to say that something was refused, or failed.
 const LAUNCHER: i32 = 3;
 
 // What one read gives: bytes, one at least; the end of input; or nothing, since it failed.
@@ -67,4 +68,14 @@ pub fn write(text: &[u8]) -> bool {
         failed(b"tns: standard output");
     }
     is_written
+}
+
+// Says a refusal on standard error, and that the launcher's status is 1, or 2 if that cannot be said. It
+// has no promise, as `write` has none.
+pub fn refuse(line: &[u8]) {
+    if io::write_all(STDERR_FILENO, line) {
+        io::write_all(LAUNCHER, b"1");
+    } else {
+        io::write_all(LAUNCHER, b"2");
+    }
 }

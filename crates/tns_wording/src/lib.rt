@@ -1,4 +1,4 @@
-// The text of a record's line, as the bits program writes it.
+// The text of a record's line, as the bits program writes it, and that of a refused block.
 use tns_cost::CostAnswer;
 use tns_cost::RecordAnswer;
 use tns_program::put;
@@ -8,7 +8,7 @@ ghost use Rattle.tns_refusals.specs.Refusals.{numbered, placed, refused, says};
 ghost use Rattle.tns_cost.specs.Cost.{costSays};
 ghost use Rattle.tns_cost.specs.Records.{lineOf};
 ghost use Rattle.tns_program.specs.Text.{Puts};
-ghost use Rattle.tns_wording.specs.Wording.{answerText, sayingText, lineText};
+ghost use Rattle.tns_wording.specs.Wording.{answerText, sayingText, lineText, blockRefusalText};
 
 fn put_number(number: u8, out: &mut [u8], at: usize) -> usize
     ensures { λ r. ⌜ Puts (answerText (refused (numbered number))) (now (out .entry)) at r (now (out .exit)) ⌝ }
@@ -68,4 +68,14 @@ pub fn put_line(frame: u64, bytes: &[u8], out: &mut [u8], at: usize) -> usize
     let begun = put(b": ", out, numbered);
     let said = put_saying(bytes, out, begun);
     put(b"\n", out, said)
+}
+
+// The line of a block that is refused, with its place in the file.
+pub fn put_block_refusal(refusal: u8, block: u64, out: &mut [u8], at: usize) -> usize
+    ensures { λ r. ⌜ Puts (blockRefusalText refusal block) (now (out .entry)) at r (now (out .exit)) ⌝ }
+{
+    let numbered = put_number(refusal, out, at);
+    let named = put(b" at block ", out, numbered);
+    let placed = put_decimal(block, out, named);
+    put(b"\n", out, placed)
 }

@@ -1,8 +1,10 @@
 //! What the test files share: the lists of `crates/replay/data` (their form stands in
-//! `oracle/README.md`), read record by record, ways to compare lines, and frames to restart.
+//! `oracle/README.md`), read record by record, ways to compare lines, frames to restart, and a model of
+//! narration files.
 #![allow(dead_code)] // each test file uses a part of it
 
 pub mod frames;
+pub mod narrations;
 
 use gillsextant::{Bandwidth, Duration, Refusal};
 

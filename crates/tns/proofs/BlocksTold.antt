@@ -1,0 +1,17 @@
+-- What a call on a block promises is told in two numbers: for both of them.
+use mathlib.Core.Path.{_≡_, sym, _∙_, ap, subst}
+use mathlib.Core.List.{List}
+use Prim.Native.Nat.{ℕ, _≤_}
+use Rattle.tns_refusals.specs.Refusals.{Verdict, onAccepted}
+use Rattle.tns_blocks.specs.Told.{blockSays, countSaid}
+use Rattle.tns_blocks.specs.declared.check.BlockAnswer.{BlockAnswer}
+use Rattle.tns_block_calls.specs.BlockCalls.{BlockDone}
+use Rattle.tns.specs.Blocks.{blockFor, TnsBlock}
+use Rattle.tns.specs.declared.blocks.BlockTold.{BlockTold}
+
+module _ {verdict : Verdict (List ℕ)} {count : List ℕ → ℕ} {found left : List ℕ} {answer : BlockAnswer} where
+  pub few-said : BlockDone verdict count found left answer → countSaid (onAccepted count verdict) ≤ 20 → countSaid (blockSays answer) ≤ 20
+  few-said done few = subst (λ (v : Verdict ℕ). countSaid v ≤ 20) (sym (done .answer)) few
+
+  pub told-too : BlockDone verdict count found left answer → {result : BlockTold} → result ≡ blockFor (blockSays answer) → TnsBlock verdict count found left result
+  told-too done e = record { answer = e ∙ ap blockFor (done .answer); bytes = done .bytes }

@@ -1,0 +1,17 @@
+-- It tells what the door says, of at most twenty records.
+use borrow.Author.Needs.{needs}
+use Rattle.tns_blocks.proofs.Verdicts.{read-few}
+use Rattle.tns.proofs.BlocksTold.{few-said, told-too}
+use Rattle.tns.proofs.blocks.tns_block_read.Statement.{statement}
+use Rattle.tns.proofs.blocks.tns_block_read.Tie as tie
+
+block-told-requires : tie.Need-block-told-requires
+block-told-requires c κs =
+    let g = c .before .before .before .args in
+    few-said (c .read-block .ensures) (read-few (g .number) (g .block .now))
+
+returns : tie.Need-returns
+returns c = told-too (c .before .read-block .ensures) (c .block-told .ensures)
+
+pub tns-block-read-spec : {M : Type 1} → statement M
+tns-block-read-spec = tie.close (tie.spec (λ c κs. search needs) block-told-requires returns)

@@ -1,0 +1,3 @@
+-- What a reader has to believe of a block.
+pub mod Blocks
+pub mod Told

@@ -1,0 +1,103 @@
+-- What the programs make of the blocks in a piece of input: the run of `tns_narrations`, read or written.
+use mathlib.Core.Path.{_≡_}
+use mathlib.Core.Bool.{true, false}
+use mathlib.Core.List.{List, []}
+use Prim.Native.Nat.{ℕ, _+_, _-_, _*_, _/_, _≤_}
+use lib.ListN.{length, take, drop}
+use Rattle.io.specs.Counts.{Counts}
+use Rattle.tns_lists.specs.Portions.{portions}
+use Rattle.tns_refusals.specs.Refusals.{numberOf, Verdict, accepted, refused}
+use Rattle.tns_blocks.specs.Blocks.{readVerdict, writeVerdict}
+use Rattle.tns_blocks.specs.Told.{blockFault}
+use Rattle.tns_narrations.specs.Files.{End, whole, refusedAt, Outcome, runFrom}
+use Rattle.tns_program.specs.Text.{Puts}
+use Rattle.tns_program.specs.declared.streams.Read.{Read}
+use Rattle.tns_program.specs.declared.streams.Read.the-variants as read
+use Rattle.tns_wording.specs.Wording.{blockRefusalText}
+use Rattle.tns_transfer.specs.declared.blocks.Way.{Way}
+use Rattle.tns_transfer.specs.declared.blocks.Way.the-variants.{ToRecords, ToBlocks}
+use Rattle.tns_transfer.specs.declared.blocks.Step.{Step}
+use Rattle.tns_transfer.specs.declared.blocks.Step.the-variants.{Put, Refused}
+use Rattle.tns_transfer.specs.declared.blocks.Ended.{Ended}
+use Rattle.tns_transfer.specs.declared.blocks.Ended.the-variants.{Whole}
+use Rattle.tns_transfer.specs.declared.blocks.Ended.the-variants as ended
+use Rattle.tns_transfer.specs.declared.blocks.Done.{Done}
+use Rattle.tns_transfer.specs.declared.pieces.Standing.{Standing}
+
+abbrev pub sizeOf : Way → ℕ
+sizeOf ToRecords = 512
+sizeOf ToBlocks = 480
+
+abbrev pub verdictOf : Way → ℕ → List ℕ → Verdict (List ℕ)
+verdictOf ToRecords = readVerdict
+verdictOf ToBlocks = writeVerdict
+
+-- what an accepted block gives was put after the first bytes
+pub record PutBlock (verdict : Verdict (List ℕ)) (found : List ℕ) (at : ℕ) (left : List ℕ) (count : ℕ) : Type 0 where
+  pub given : List ℕ
+  pub took : verdict ≡ accepted given
+  pub puts : Puts given found at count left
+  pub few : length given ≤ 512
+
+-- of a refused one nothing was
+abbrev pub StepDone : Verdict (List ℕ) → List ℕ → ℕ → List ℕ → Step → Type 0
+StepDone verdict found at left (Put count) = PutBlock verdict found at left count
+StepDone verdict found at left (Refused why) = (verdict ≡ refused (blockFault why)) × (left ≡ found)
+
+-- the run over the blocks of some bytes, the first of this number
+abbrev pub blocksOf : Way → ℕ → List ℕ → Outcome
+blocksOf way number bytes = runFrom (verdictOf way) number (portions (sizeOf way) bytes)
+
+abbrev pub endOf : Ended → ℕ → End
+endOf Whole next = whole
+endOf (ended.Refused why) next = refusedAt next (blockFault why)
+
+-- what the run gives lies at the start of what is left, it ends as the run does, and where nothing is refused it goes on behind its blocks
+pub record PutsBlocks (way : Way) (number : ℕ) (bytes left : List ℕ) (result : Done) : Type 0 where
+  pub counts : Counts (result .count) left
+  pub given : take (result .count) left ≡ blocksOf way number bytes .given
+  pub end : endOf (result .ended) (result .next) ≡ blocksOf way number bytes .end
+  pub on : blocksOf way number bytes .end ≡ whole → result .next ≡ number + length (portions (sizeOf way) bytes)
+  pub in-range : result .next ≤ 65536
+
+-- how many of the first bytes read are whole blocks
+abbrev pub wholeBytes : Way → ℕ → ℕ
+wholeBytes way read = sizeOf way * (read / sizeOf way)
+
+-- how many of the bytes held are known to be whole where input fails: no block of a narration, and the records that were read
+abbrev pub knownBytes : Way → ℕ → ℕ
+knownBytes ToRecords held = 0
+knownBytes ToBlocks held = 24 * (held / 24)
+
+-- what a run gives lies at the start of the output
+abbrev pub Lies : Outcome → List ℕ → Type 0
+Lies outcome output = take (length (outcome .given)) output ≡ outcome .given
+
+-- The whole blocks of the bytes read are taken, from this number on. Where it goes on, nothing of them was refused and the next number is that behind
+-- them. What is left of the bytes is held.
+pub record TakesPiece (way : Way) (number read : ℕ) (found left output : List ℕ) (result : Standing) : Type 0 where
+  pub lies : Lies (blocksOf way number (take (wholeBytes way read) found)) output
+  pub whole-so-far : result .«goes_on» ≡ true → blocksOf way number (take (wholeBytes way read) found) .end ≡ whole
+  pub on : result .«goes_on» ≡ true → result .number ≡ number + length (portions (sizeOf way) (take (wholeBytes way read) found))
+  pub so-many : result .held ≡ read - wholeBytes way read
+  pub stays : take (result .held) left ≡ take (result .held) (drop (wholeBytes way read) found)
+  pub in-range : result .number ≤ 65536
+
+-- The last bytes are taken as the last block, and nothing goes on.
+pub record TakesLast (way : Way) (number : ℕ) (bytes output : List ℕ) (result : Standing) : Type 0 where
+  pub lies : Lies (blocksOf way number bytes) output
+  pub ends : result .«goes_on» ≡ false
+  pub none : result .held ≡ 0
+  pub in-range : result .number ≤ 65536
+
+-- By what a read gives: more bytes behind those held; the end, at which those held are the last block, short or not; or nothing, since it failed, and
+-- then what is known to be whole of them is.
+abbrev pub AnswersRead : Way → Read → Standing → List ℕ → List ℕ → List ℕ → Standing → Type 0
+AnswersRead way (read.Bytes count) standing found left output result = TakesPiece way (standing .number) (standing .held + count) found left output result
+AnswersRead way read.End standing found left output result = TakesLast way (standing .number) (take (standing .held) found) output result
+AnswersRead way read.Failed standing found left output result = TakesLast way (standing .number) (take (knownBytes way (standing .held)) found) output result
+
+-- what is said of an end on standard error
+abbrev pub endText : End → List ℕ
+endText whole = []
+endText (refusedAt block fault) = blockRefusalText (numberOf fault) block

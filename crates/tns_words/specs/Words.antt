@@ -1,0 +1,15 @@
+-- Request C-11, "every u16 little end first": a number below 65,536 as two bytes, and two bytes as a number.
+use mathlib.Core.List.{List, [], _∷_}
+use Prim.Native.Nat.{ℕ, suc, _+_, _*_, _/_, _%_}
+use lib.ListN.{getD}
+
+abbrev pub wordOf : ℕ → ℕ → ℕ
+wordOf low high = low + 256 * high
+
+-- the number that stands at a place of some bytes
+abbrev pub wordAt : ℕ → List ℕ → ℕ
+wordAt place bytes = wordOf (getD bytes place 0) (getD bytes (suc place) 0)
+
+-- a number as it is written
+abbrev pub wordBytes : ℕ → List ℕ
+wordBytes n = n % 256 ∷ n / 256 ∷ []

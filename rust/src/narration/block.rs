@@ -1,0 +1,113 @@
+//! One block of a narration, made and checked by the library.
+
+use super::{BLOCK_SIZE, RECORDS_SIZE};
+use crate::sys;
+use core::fmt;
+
+/// Why a block was refused. Where several reasons hold, the one with the lowest number is given.
+#[derive(Clone, Copy, Debug, PartialEq, Eq, Hash)]
+pub enum BlockRefusal {
+    /// 9: the block is cut short, or its number is over 65,535.
+    Length,
+    /// 10: the bytes have other sums than the block says.
+    Sums,
+    /// 11: the header is wrong, the number is another, or the fill is not zero.
+    Layout,
+    /// 12: a record breaks a limit or is cut short, or its bits are not its cost.
+    Record,
+}
+
+impl BlockRefusal {
+    /// The refusal's number.
+    pub fn number(self) -> u16 {
+        match self {
+            BlockRefusal::Length => 9,
+            BlockRefusal::Sums => 10,
+            BlockRefusal::Layout => 11,
+            BlockRefusal::Record => 12,
+        }
+    }
+
+    /// The library's numbers for a refused block. Its calls on blocks give no other; one would be taken
+    /// for 12.
+    pub(crate) fn of(number: u16) -> Self {
+        match number {
+            9 => BlockRefusal::Length,
+            10 => BlockRefusal::Sums,
+            11 => BlockRefusal::Layout,
+            _ => BlockRefusal::Record,
+        }
+    }
+}
+
+impl fmt::Display for BlockRefusal {
+    fn fmt(&self, f: &mut fmt::Formatter<'_>) -> fmt::Result {
+        f.write_str(match self {
+            BlockRefusal::Length => "the block is cut short or its number is over 65535",
+            BlockRefusal::Sums => "the sums are not those of the bytes",
+            BlockRefusal::Layout => "the header, the number or the fill is wrong",
+            BlockRefusal::Record => "a record breaks a limit or its bits are not its cost",
+        })
+    }
+}
+
+impl core::error::Error for BlockRefusal {}
+
+/// Writes the first 20 records of a list of bytes, or all where there are fewer, as the block of this
+/// number, and gives how many they are. No records are no block: `Ok(0)`, whatever the number, and
+/// nothing is written.
+///
+/// Refused by [`BlockRefusal::Length`] if the number is over 65,535, and by [`BlockRefusal::Record`] if a
+/// record that is taken is not sound or the last is cut short. A refused call leaves the block as it was.
+///
+/// The list may be longer. It is written block by block, 480 bytes further on each time:
+///
+/// ```
+/// use gillsextant::narration::{write_block, BlockRefusal, Record, BLOCK_SIZE, RECORDS_SIZE};
+///
+/// let records = [Record::default().to_bytes(); 41].concat();
+/// let (mut file, mut block) = (Vec::new(), [0; BLOCK_SIZE]);
+/// for (number, list) in records.chunks(RECORDS_SIZE).enumerate() {
+///     write_block(number as u64, list, &mut block)?;
+///     file.extend(block);
+/// }
+/// assert_eq!(file.len(), 3 * BLOCK_SIZE);
+/// # Ok::<(), BlockRefusal>(())
+/// ```
+pub fn write_block(
+    number: u64,
+    records: &[u8],
+    block: &mut [u8; BLOCK_SIZE],
+) -> Result<usize, BlockRefusal> {
+    sys::block_write(number, records, block)
+}
+
+/// Checks the first 512 bytes as the block of this number, puts its records at the front of a list and
+/// gives how many they are. The rest of the list stays as it was. No bytes are the end of a file:
+/// `Ok(0)`, whatever the number, and nothing is written.
+///
+/// Refused by [`BlockRefusal::Length`] if there are fewer than 512 bytes or the number is over 65,535,
+/// then by the other three in their order. A refused call leaves the list as it was.
+///
+/// A file that is all in memory is read so, to its end or to the first block that is refused:
+///
+/// ```
+/// use gillsextant::narration::{read_block, write_block, BlockRefusal, Record};
+/// use gillsextant::narration::{BLOCK_SIZE, RECORDS_SIZE};
+///
+/// # let mut file = [0; BLOCK_SIZE];
+/// # write_block(0, &Record::default().to_bytes(), &mut file)?;
+/// let mut records = [0; RECORDS_SIZE];
+/// for (number, bytes) in file.chunks(BLOCK_SIZE).enumerate() {
+///     let count = read_block(number as u64, bytes, &mut records)?;
+///     println!("block {number}: {count} records");
+/// }
+/// # Ok::<(), BlockRefusal>(())
+/// ```
+pub fn read_block(
+    number: u64,
+    block: &[u8],
+    records: &mut [u8; RECORDS_SIZE],
+) -> Result<usize, BlockRefusal> {
+    sys::block_read(number, block, records)
+}
