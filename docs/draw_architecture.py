@@ -15,15 +15,19 @@ DOCS = Path(__file__).resolve().parent
 PICTURE = DOCS / "architecture.svg"
 BOTTOM = ["tns_refusals", "tns_lists", "tns_rounding"]
 ACROSS = {
-    "tns_program": 0, "tns_wording": 0, "tns_bits": 0,
-    "tns_tables": 1.2, "tns_cost": 1.2, "tns_side": 1.9, "tns_index": 2.5,
+    "tns_program": 0, "tns_wording": 0, "tns_bits": 0, "tns_words": 0.1, "tns_records": 0.97, "tns_blocks": 1.05,
+    "tns_block_calls": 1.9, "tns_narrations": 0.9, "tns_transfer": 1.0, "tns_read": 0.6, "tns_write": 1.6,
+    "tns_tables": 1.2, "tns_cost": 1.2, "tns_side": 1.98, "tns_index": 2.5,
     "tns_decode": 4.1, "tns_calls": 2.95, "tns_mending": 2.9, "tns_frames": 4.3, "tns_rows": 4.6, "tns_exact": 5.2,
     "tns_filters": 5.55, "tns_lattices": 6.0, "tns_encode": 6.3, "tns_round_trip": 3.3, "tns": 4.4, "replay": 4.4,
     "tns_lags": 6.7, "tns_recursion": 7.55, "tns_analysis": 7.3, "tns_examples": 7.3, "tns_reflections": 8.55,
 }
 SAYS = {
-    "tns_refusals": "verdicts, checks 4 to 7", "tns_lists": "lists, lines in place", "tns_rounding": "f32 operations",
-    "tns_program": "reading, writing, text", "tns_wording": "a record's line", "tns_bits": "the program",
+    "tns_refusals": "verdicts, 1, 2, 4 to 7", "tns_lists": "lists, lines in place", "tns_rounding": "f32 operations",
+    "tns_program": "reading, writing, text", "tns_wording": "lines of text", "tns_bits": "the bits program",
+    "tns_words": "numbers, two sums", "tns_records": "a record of 24 bytes", "tns_blocks": "what is right of a block",
+    "tns_block_calls": "read, write a block", "tns_narrations": "a file of blocks", "tns_transfer": "input to output",
+    "tns_read": "the program", "tns_write": "the program",
     "tns_tables": "table T", "tns_cost": "bits, 20-byte records", "tns_side": "side data",
     "tns_index": "index, coefficient", "tns_exact": "demand 3", "tns_rows": "durations, bands", "tns_frames": "checks 1 to 3", "tns_calls": "checks 16, 17", "tns_mending": "save, then restart",
     "tns_lattices": "one band", "tns_filters": "the bands of a row", "tns_decode": "decode, save, restart",
