@@ -17,7 +17,7 @@ BOTTOM = ["tns_refusals", "tns_lists", "tns_rounding"]
 ACROSS = {
     "tns_program": 0, "tns_wording": 0, "tns_bits": 0, "tns_words": 0.1, "tns_records": 0.97, "tns_blocks": 1.05,
     "tns_block_calls": 1.9, "tns_narrations": 0.9, "tns_transfer": 1.0, "tns_read": 0.6, "tns_write": 1.6,
-    "tns_tables": 1.2, "tns_cost": 1.2, "tns_side": 1.98, "tns_index": 2.5,
+    "tns_tables": 1.35, "tns_charges": 1.35, "tns_cost": 1.35, "tns_side": 1.98, "tns_index": 2.5,
     "tns_decode": 4.1, "tns_calls": 2.95, "tns_mending": 2.9, "tns_frames": 4.3, "tns_rows": 4.6, "tns_exact": 5.2,
     "tns_filters": 5.55, "tns_lattices": 6.0, "tns_encode": 6.3, "tns_round_trip": 3.3, "tns": 4.4, "replay": 4.4,
     "tns_lags": 6.7, "tns_recursion": 7.55, "tns_analysis": 7.3, "tns_examples": 7.3, "tns_reflections": 8.55,
@@ -28,14 +28,14 @@ SAYS = {
     "tns_words": "numbers, two sums", "tns_records": "a record of 24 bytes", "tns_blocks": "what is right of a block",
     "tns_block_calls": "read, write a block", "tns_narrations": "a file of blocks", "tns_transfer": "input to output",
     "tns_read": "the program", "tns_write": "the program",
-    "tns_tables": "table T", "tns_cost": "bits, 20-byte records", "tns_side": "side data",
+    "tns_tables": "table T", "tns_charges": "what indices cost", "tns_cost": "bits, 20-byte records", "tns_side": "side data",
     "tns_index": "index, coefficient", "tns_exact": "demand 3", "tns_rows": "durations, bands", "tns_frames": "checks 1 to 3", "tns_calls": "checks 16, 17", "tns_mending": "save, then restart",
     "tns_lattices": "one band", "tns_filters": "the bands of a row", "tns_decode": "decode, save, restart",
     "tns_lags": "autocorrelation", "tns_recursion": "predictor, gain", "tns_reflections": "step-down", "tns_analysis": "a filter, a frame",
     "tns_encode": "the encode call", "tns_round_trip": "encode, then decode", "tns": "what C and Rust link", "tns_examples": "worked cases", "replay": "the lists",
 }
 WIDTH, HEIGHT, STEP, LEFT, TOP = 124, 38, 130, 16, 16
-ROWS = 8
+ROWS = 9
 
 
 def crates():
@@ -67,11 +67,11 @@ def svg():
             place[name] = (LEFT + (2 + 2 * BOTTOM.index(name)) * STEP, TOP + (ROWS - 1) * 70)
         else:
             # A program's own room is drawn beside those that programs are made of.
-            up = {"tns_program": 2}.get(name, depth(name, lists))
+            up = {"tns_program": 3}.get(name, depth(name, lists))
             place[name] = (LEFT + ACROSS[name] * STEP, TOP + (ROWS - 1 - up) * 70)
     out = [
-        '<svg xmlns="http://www.w3.org/2000/svg" width="1268" height="562" font-family="sans-serif">',
-        '<rect width="1268" height="562" fill="white"/>',
+        f'<svg xmlns="http://www.w3.org/2000/svg" width="1268" height="{ROWS * 70 + 2}" font-family="sans-serif">',
+        f'<rect width="1268" height="{ROWS * 70 + 2}" fill="white"/>',
         '<defs><marker id="tip" viewBox="0 0 8 8" refX="8" refY="4" markerWidth="7" markerHeight="7" orient="auto">'
         '<path d="M0,0 L8,4 L0,8 z" fill="#777"/></marker></defs>',
     ]

@@ -1,9 +1,9 @@
 // The cost of side data in bits: E's `calc_bit_budget` in whole numbers, and the door that checks its
 // input first.
+use tns_charges::coef_bits_below;
 use tns_refusals::Refusal;
 use tns_refusals::SideAnswer;
 use tns_refusals::check_side;
-use tns_tables::coef_bits_below;
 use tns_tables::order_bits;
 ghost use mathlib.Core.Path.{_≡_};
 ghost use Rattle.tns_refusals.specs.Refusals.{SoundSide};

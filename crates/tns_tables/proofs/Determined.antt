@@ -2,8 +2,6 @@
 use Rattle.tns_refusals.proofs.Determined.{Determined, itself}
 use Rattle.tns_tables.proofs.coef_bits.Kinds as coef-bits-kinds
 use Rattle.tns_tables.proofs.coef_bits.Reads as coef-bits-reads
-use Rattle.tns_tables.proofs.coef_bits_below.Kinds as coef-bits-below-kinds
-use Rattle.tns_tables.proofs.coef_bits_below.Reads as coef-bits-below-reads
 use Rattle.tns_tables.proofs.coef_cumfreq.Kinds as coef-cumfreq-kinds
 use Rattle.tns_tables.proofs.coef_cumfreq.Reads as coef-cumfreq-reads
 use Rattle.tns_tables.proofs.coef_freq.Kinds as coef-freq-kinds
@@ -32,6 +30,3 @@ order-cumfreq κs a x y s t p q = itself p q
 
 order-freq : Determined 0 order-freq-kinds.ps order-freq-kinds.r order-freq-reads.Post
 order-freq κs a x y s t p q = itself p q
-
-coef-bits-below : Determined 1 coef-bits-below-kinds.ps coef-bits-below-kinds.r coef-bits-below-reads.Post
-coef-bits-below κs a x y s t p q = itself p q

@@ -1,10 +1,9 @@
 -- The tables of T, `temporal_noise_shaping_tables.rs`, as lists of rows, and how a number is read out of one.
-use mathlib.Core.Path.{_≡_}
-use mathlib.Core.Bool.{Bool, true, _&&_, cond}
+use mathlib.Core.Bool.{Bool, true, _&&_}
 use mathlib.Core.List.{List, [], _∷_}
-use Prim.Native.Nat.{ℕ, zero, suc, _+_, _*_, _≤_}
-use lib.Dec.{eqb, ltb}
-use lib.ListN.{getD, length, take}
+use Prim.Native.Nat.{ℕ, zero, suc, _+_}
+use lib.Dec.{eqb}
+use lib.ListN.{getD, length}
 
 -- the number of a table at a row and a column, and 0 outside the table
 abbrev pub cell : List (List ℕ) → ℕ → ℕ → ℕ
@@ -79,15 +78,6 @@ coefCumfreq =
     (0 ∷ 1 ∷ 2 ∷ 3 ∷ 4 ∷ 5 ∷ 6 ∷ 19 ∷ 300 ∷ 630 ∷ 1001 ∷ 1018 ∷ 1019 ∷ 1020 ∷ 1021 ∷ 1022 ∷ 1023 ∷ []) ∷
     (0 ∷ 1 ∷ 2 ∷ 3 ∷ 4 ∷ 5 ∷ 6 ∷ 11 ∷ 308 ∷ 309 ∷ 991 ∷ 1017 ∷ 1019 ∷ 1020 ∷ 1021 ∷ 1022 ∷ 1023 ∷ []) ∷
     []
-
--- the number in a row for the column that stands at a place, and 0 where that place is not among the first ones
-abbrev pub cellBelow : List ℕ → ℕ → ℕ → List ℕ → ℕ
-cellBelow row place first columns = cond (ltb place (length (take first columns))) (getD row (getD columns place 0) 0) 0
-
--- What is promised of a sum to which that was added: it is, and it is still small.
-pub record Charged (sum : ℕ) (row : List ℕ) (place first : ℕ) (columns : List ℕ) (result : ℕ) : Type 0 where
-  pub more : result ≡ sum + cellBelow row place first columns
-  pub few : result ≤ 65535 * (place + 1)
 
 -- the numbers of a table at some columns, in the rows from one on, added up
 unfoldable pub cellsFrom : List (List ℕ) → ℕ → List ℕ → ℕ

@@ -6,9 +6,9 @@ use native.Mathlib.Omega.{arith}
 use borrow.Author.Needs.{needs}
 use borrow.Author.Tests.{lt-ltb, le-ltb}
 use lib.ListN.{length, getD, take, length-take}
-use Rattle.tns_tables.specs.Tables.{cellBelow}
-use Rattle.tns_tables.proofs.charged.Statement.{statement}
-use Rattle.tns_tables.proofs.charged.Tie as tie
+use Rattle.tns_charges.specs.Charges.{cellBelow}
+use Rattle.tns_charges.proofs.charged.Statement.{statement}
+use Rattle.tns_charges.proofs.charged.Tie as tie
 
 module _ (row : List ℕ) (place order : ℕ) (indices : List ℕ) where
   not-there : length (take order indices) ≤ place → cellBelow row place order indices ≡ 0

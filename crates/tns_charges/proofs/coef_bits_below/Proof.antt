@@ -9,9 +9,10 @@ use borrow.Author.Needs.{needs}
 use borrow.Author.Tests.{lt-ltb, le-ltb}
 use lib.ListN.{length, getD, drop, take, length-take, drop-of-length-le, List·getD-eq-default}
 use lib.Seq.{drop-cons, getD-take}
-use Rattle.tns_tables.specs.Tables.{cell, coefBits, cellBelow, cellsFrom}
-use Rattle.tns_tables.proofs.coef_bits_below.Statement.{statement}
-use Rattle.tns_tables.proofs.coef_bits_below.Tie as tie
+use Rattle.tns_tables.specs.Tables.{cell, coefBits, cellsFrom}
+use Rattle.tns_charges.specs.Charges.{cellBelow}
+use Rattle.tns_charges.proofs.coef_bits_below.Statement.{statement}
+use Rattle.tns_charges.proofs.coef_bits_below.Tie as tie
 
 module _ (table : List (List ℕ)) where
   -- past the last row there is nothing

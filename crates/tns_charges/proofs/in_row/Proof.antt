@@ -7,8 +7,8 @@ use borrow.Kind.Array.{good-length, eInt}
 use mir.Syntax.{w16}
 use lib.ListN.{length, List·getD-eq-default}
 use Rattle.tns_lists.proofs.Orders.{above}
-use Rattle.tns_tables.proofs.in_row.Statement.{statement}
-use Rattle.tns_tables.proofs.in_row.Tie as tie
+use Rattle.tns_charges.proofs.in_row.Statement.{statement}
+use Rattle.tns_charges.proofs.in_row.Tie as tie
 
 returns-18 : tie.Need-returns-18
 returns-18 c =
