@@ -16,7 +16,7 @@ PICTURE = DOCS / "architecture.svg"
 BOTTOM = ["tns_refusals", "tns_lists", "tns_rounding"]
 ACROSS = {
     "tns_program": 0, "tns_wording": 0, "tns_bits": 0, "tns_words": 0.1, "tns_records": 0.97, "tns_blocks": 1.05,
-    "tns_block_calls": 1.9, "tns_narrations": 0.9, "tns_transfer": 1.0, "tns_read": 0.6, "tns_write": 1.6,
+    "tns_block_calls": 1.9, "tns_narrations": 0.9, "tns_block_runs": 1.4, "tns_transfer": 1.0, "tns_read": 0.6, "tns_write": 1.6,
     "tns_tables": 1.35, "tns_charges": 1.35, "tns_cost": 1.35, "tns_side": 1.98, "tns_index": 2.5,
     "tns_decode": 4.1, "tns_calls": 2.95, "tns_mending": 2.9, "tns_frames": 4.3, "tns_rows": 4.6, "tns_exact": 5.2,
     "tns_filters": 5.55, "tns_lattices": 6.0, "tns_encode": 6.3, "tns_round_trip": 3.3, "tns": 4.4, "replay": 4.4,
@@ -26,7 +26,7 @@ SAYS = {
     "tns_refusals": "verdicts, 1, 2, 4 to 7", "tns_lists": "lists, lines in place", "tns_rounding": "f32 operations",
     "tns_program": "reading, writing, text", "tns_wording": "lines of text", "tns_bits": "the bits program",
     "tns_words": "numbers, two sums", "tns_records": "a record of 24 bytes", "tns_blocks": "what is right of a block",
-    "tns_block_calls": "read, write a block", "tns_narrations": "a file of blocks", "tns_transfer": "input to output",
+    "tns_block_calls": "read, write a block", "tns_narrations": "a file of blocks", "tns_block_runs": "what blocks become", "tns_transfer": "input to output",
     "tns_read": "the program", "tns_write": "the program",
     "tns_tables": "table T", "tns_charges": "what indices cost", "tns_cost": "bits, 20-byte records", "tns_side": "side data",
     "tns_index": "index, coefficient", "tns_exact": "demand 3", "tns_rows": "durations, bands", "tns_frames": "checks 1 to 3", "tns_calls": "checks 16, 17", "tns_mending": "save, then restart",
@@ -35,7 +35,7 @@ SAYS = {
     "tns_encode": "the encode call", "tns_round_trip": "encode, then decode", "tns": "what C and Rust link", "tns_examples": "worked cases", "replay": "the lists",
 }
 WIDTH, HEIGHT, STEP, LEFT, TOP = 124, 38, 130, 16, 16
-ROWS = 9
+ROWS = 10
 
 
 def crates():

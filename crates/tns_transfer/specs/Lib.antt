@@ -1,2 +1,2 @@
--- What a reader has to believe of what the programs make of blocks.
+-- What a reader has to believe of what the programs make of their input.
 pub mod Transfer

@@ -1,64 +1,19 @@
--- What the programs make of the blocks in a piece of input: the run of `tns_narrations`, read or written.
+-- What the programs make of a piece of input: its whole blocks are taken, and the rest waits.
 use mathlib.Core.Path.{_≡_}
 use mathlib.Core.Bool.{true, false}
 use mathlib.Core.List.{List, []}
 use Prim.Native.Nat.{ℕ, _+_, _-_, _*_, _/_, _≤_}
 use lib.ListN.{length, take, drop}
-use Rattle.io.specs.Counts.{Counts}
 use Rattle.tns_lists.specs.Portions.{portions}
-use Rattle.tns_refusals.specs.Refusals.{numberOf, Verdict, accepted, refused}
-use Rattle.tns_blocks.specs.Blocks.{readVerdict, writeVerdict}
-use Rattle.tns_blocks.specs.Told.{blockFault}
-use Rattle.tns_narrations.specs.Files.{End, whole, refusedAt, Outcome, runFrom}
-use Rattle.tns_program.specs.Text.{Puts}
+use Rattle.tns_refusals.specs.Refusals.{numberOf}
+use Rattle.tns_narrations.specs.Files.{End, whole, refusedAt, Outcome}
 use Rattle.tns_program.specs.declared.streams.Read.{Read}
 use Rattle.tns_program.specs.declared.streams.Read.the-variants as read
 use Rattle.tns_wording.specs.Wording.{blockRefusalText}
-use Rattle.tns_transfer.specs.declared.blocks.Way.{Way}
-use Rattle.tns_transfer.specs.declared.blocks.Way.the-variants.{ToRecords, ToBlocks}
-use Rattle.tns_transfer.specs.declared.blocks.Step.{Step}
-use Rattle.tns_transfer.specs.declared.blocks.Step.the-variants.{Put, Refused}
-use Rattle.tns_transfer.specs.declared.blocks.Ended.{Ended}
-use Rattle.tns_transfer.specs.declared.blocks.Ended.the-variants.{Whole}
-use Rattle.tns_transfer.specs.declared.blocks.Ended.the-variants as ended
-use Rattle.tns_transfer.specs.declared.blocks.Done.{Done}
+use Rattle.tns_block_runs.specs.Runs.{sizeOf, blocksOf}
+use Rattle.tns_block_runs.specs.declared.Way.{Way}
+use Rattle.tns_block_runs.specs.declared.Way.the-variants.{ToRecords, ToBlocks}
 use Rattle.tns_transfer.specs.declared.pieces.Standing.{Standing}
-
-abbrev pub sizeOf : Way → ℕ
-sizeOf ToRecords = 512
-sizeOf ToBlocks = 480
-
-abbrev pub verdictOf : Way → ℕ → List ℕ → Verdict (List ℕ)
-verdictOf ToRecords = readVerdict
-verdictOf ToBlocks = writeVerdict
-
--- what an accepted block gives was put after the first bytes
-pub record PutBlock (verdict : Verdict (List ℕ)) (found : List ℕ) (at : ℕ) (left : List ℕ) (count : ℕ) : Type 0 where
-  pub given : List ℕ
-  pub took : verdict ≡ accepted given
-  pub puts : Puts given found at count left
-  pub few : length given ≤ 512
-
--- of a refused one nothing was
-abbrev pub StepDone : Verdict (List ℕ) → List ℕ → ℕ → List ℕ → Step → Type 0
-StepDone verdict found at left (Put count) = PutBlock verdict found at left count
-StepDone verdict found at left (Refused why) = (verdict ≡ refused (blockFault why)) × (left ≡ found)
-
--- the run over the blocks of some bytes, the first of this number
-abbrev pub blocksOf : Way → ℕ → List ℕ → Outcome
-blocksOf way number bytes = runFrom (verdictOf way) number (portions (sizeOf way) bytes)
-
-abbrev pub endOf : Ended → ℕ → End
-endOf Whole next = whole
-endOf (ended.Refused why) next = refusedAt next (blockFault why)
-
--- what the run gives lies at the start of what is left, it ends as the run does, and where nothing is refused it goes on behind its blocks
-pub record PutsBlocks (way : Way) (number : ℕ) (bytes left : List ℕ) (result : Done) : Type 0 where
-  pub counts : Counts (result .count) left
-  pub given : take (result .count) left ≡ blocksOf way number bytes .given
-  pub end : endOf (result .ended) (result .next) ≡ blocksOf way number bytes .end
-  pub on : blocksOf way number bytes .end ≡ whole → result .next ≡ number + length (portions (sizeOf way) bytes)
-  pub in-range : result .next ≤ 65536
 
 -- how many of the first bytes read are whole blocks
 abbrev pub wholeBytes : Way → ℕ → ℕ

@@ -1,9 +1,9 @@
 // Standard input in pieces. A piece holds a whole number of blocks, of either kind; what is left of one
 // waits for the next read. What was read before input fails is answered as far as it is whole.
-use crate::blocks::Done;
-use crate::blocks::Ended;
-use crate::blocks::Way;
-use crate::blocks::put_blocks;
+use tns_block_runs::Done;
+use tns_block_runs::Ended;
+use tns_block_runs::Way;
+use tns_block_runs::put_blocks;
 use tns_program::Read;
 use tns_program::keep;
 use tns_program::read_after;
@@ -17,7 +17,8 @@ ghost use lib.ListN.{length, take};
 ghost use Rattle.tns_program.specs.Pieces.{Within};
 ghost use Rattle.tns_program.specs.Text.{Puts};
 ghost use Rattle.tns_narrations.specs.Files.{whole};
-ghost use Rattle.tns_transfer.specs.Transfer.{endOf, endText, wholeBytes, knownBytes, TakesPiece, TakesLast, AnswersRead};
+ghost use Rattle.tns_block_runs.specs.Runs.{endOf};
+ghost use Rattle.tns_transfer.specs.Transfer.{endText, wholeBytes, knownBytes, TakesPiece, TakesLast, AnswersRead};
 
 // Where a program stands between two reads: the next block's number, how many bytes of a block not yet
 // whole are held at the start of the piece, and whether there is more to do.

@@ -8,7 +8,7 @@ use Rattle.tns_program.specs.Pieces.{Within}
 use Rattle.tns_program.specs.declared.streams.Read.{Read}
 use Rattle.tns_program.specs.declared.streams.Read.the-variants.{Bytes}
 use Rattle.tns_transfer.specs.Transfer.{TakesLast, AnswersRead}
-use Rattle.tns_transfer.proofs.Steps.{known-within}
+use Rattle.tns_transfer.proofs.Taken.{known-within}
 use Rattle.tns_transfer.proofs.pieces.answered.Statement.{statement}
 use Rattle.tns_transfer.proofs.pieces.answered.Tie as tie
 

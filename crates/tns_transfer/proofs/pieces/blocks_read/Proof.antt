@@ -6,8 +6,9 @@ use borrow.Author.Needs.{needs}
 use lib.ListN.{length, take, drop, length-take}
 use Rattle.io.proofs.Counting.{front}
 use Rattle.tns_lists.specs.Portions.{portions}
-use Rattle.tns_transfer.specs.Transfer.{sizeOf, blocksOf, wholeBytes, Lies}
-use Rattle.tns_transfer.proofs.Steps.{whole-within, it-lies}
+use Rattle.tns_block_runs.specs.Runs.{sizeOf, blocksOf, PutsBlocks}
+use Rattle.tns_transfer.specs.Transfer.{wholeBytes, Lies}
+use Rattle.tns_transfer.proofs.Taken.{whole-within, it-lies}
 use Rattle.tns_transfer.proofs.pieces.blocks_read.Statement.{statement}
 use Rattle.tns_transfer.proofs.pieces.blocks_read.Tie as tie
 
@@ -25,11 +26,19 @@ slice-aggregate-put-blocks c =
     let g = called .before .before .before .args in
     front (called .whole-blocks .result) (g .input .now) (omega (arith, within called))
 
-put-blocks-requires : tie.Need-put-blocks-requires
-put-blocks-requires c κs =
-    let called = c .before .before in
+-- what becomes of them: they are few enough, and there is room
+done : (c : tie.After-put-blocks) →
+    let called = c .before .before .before in
+    let g = called .before .before .before .args in
+    PutsBlocks (g .way) (g .number) (take (called .whole-blocks .result) (g .input .now)) (c .put-blocks .last .1 .1 .1 .0) (c .put-blocks .result)
+done c =
+    let called = c .before .before .before in
     let start = called .before .before .before in
+    c .put-blocks .ensures
     (start .pre .0, omega (arith, within called, start .pre .1, length-take (called .whole-blocks .result) (start .args .input .now)), omega (arith, start .pre .3))
+
+settled-requires : tie.Need-settled-requires
+settled-requires c κs = done (c .before .before .before) .counts .0
 
 returns : tie.Need-returns
 returns c =
@@ -41,7 +50,7 @@ returns c =
     let g = start .args in
     let n = called .whole-blocks .result in
     let its : n ≡ wholeBytes (g .way) (g .read) = called .whole-blocks .ensures in
-    let done = put .put-blocks .ensures in
+    let done = done put in
     let out = put .put-blocks .last .1 .1 .1 .0 in
     record {
       lies =
@@ -61,8 +70,8 @@ blocks-read-spec =
     (λ c κs. search needs)
     (λ c. omega (arith, within c))
     slice-aggregate-put-blocks
-    put-blocks-requires
     (λ c κs. search needs)
+    settled-requires
     (λ c. omega (arith, within (c .before .before .before .before .before .before .before)))
     (λ c κs. search needs)
     (λ c. search needs)

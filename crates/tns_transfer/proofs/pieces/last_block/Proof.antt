@@ -4,8 +4,8 @@ use native.Mathlib.Omega.{arith}
 use borrow.Author.Needs.{needs}
 use lib.ListN.{take, length-take}
 use Rattle.io.proofs.Counting.{front}
-use Rattle.tns_transfer.specs.Transfer.{blocksOf}
-use Rattle.tns_transfer.proofs.Steps.{it-lies}
+use Rattle.tns_block_runs.specs.Runs.{blocksOf, PutsBlocks}
+use Rattle.tns_transfer.proofs.Taken.{it-lies}
 use Rattle.tns_transfer.proofs.pieces.last_block.Statement.{statement}
 use Rattle.tns_transfer.proofs.pieces.last_block.Tie as tie
 
@@ -14,16 +14,22 @@ slice-aggregate-put-blocks c =
     let start = c .before .before .before in
     front (start .args .held) (start .args .input .now) (omega (arith, start .pre .1, start .pre .2))
 
-put-blocks-requires : tie.Need-put-blocks-requires
-put-blocks-requires c κs =
-    let start = c .before .before .before .before in
-    (start .pre .0, omega (arith, start .pre .1, length-take (start .args .held) (start .args .input .now)), omega (arith, start .pre .3))
+-- what becomes of it: it is short enough, and there is room
+done : (c : tie.After-put-blocks) →
+    let g = c .before .before .before .before .before .args in
+    PutsBlocks (g .way) (g .number) (take (g .held) (g .input .now)) (c .put-blocks .last .1 .1 .1 .0) (c .put-blocks .result)
+done c =
+    let start = c .before .before .before .before .before in
+    c .put-blocks .ensures (start .pre .0, omega (arith, start .pre .1, length-take (start .args .held) (start .args .input .now)), omega (arith, start .pre .3))
+
+settled-requires : tie.Need-settled-requires
+settled-requires c κs = done (c .before .before .before) .counts .0
 
 returns : tie.Need-returns
 returns c =
     let put = c .before .before .before .before in
     let g = put .before .before .before .before .before .args in
-    let done = put .put-blocks .ensures in
+    let done = done put in
     record {
       lies = it-lies (put .put-blocks .result .count) (put .put-blocks .last .1 .1 .1 .0) (blocksOf (g .way) (g .number) (take (g .held) (g .input .now))) (done .counts) (done .given);
       ends = refl;
@@ -36,7 +42,7 @@ last-block-spec =
     tie.close
     (tie.spec
     slice-aggregate-put-blocks
-    put-blocks-requires
     (λ c κs. search needs)
+    settled-requires
     (λ c. search needs)
     returns)

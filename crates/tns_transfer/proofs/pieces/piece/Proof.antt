@@ -1,7 +1,7 @@
 -- Whatever a read gives is answered, and number and bytes held stay in range.
 use native.Mathlib.Omega.{arith}
 use borrow.Author.Needs.{needs}
-use Rattle.tns_transfer.proofs.Steps.{still-in-range}
+use Rattle.tns_transfer.proofs.Taken.{still-in-range}
 use Rattle.tns_transfer.proofs.pieces.piece.Statement.{statement}
 use Rattle.tns_transfer.proofs.pieces.piece.Tie as tie
 

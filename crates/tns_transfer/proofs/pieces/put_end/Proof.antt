@@ -1,13 +1,16 @@
 -- No line, or that of the refusal.
-use mathlib.Core.Path.{ap, sym, _∙_}
+use mathlib.Core.Path.{_≡_, ap, sym, _∙_}
 use Prim.Native.Nat.{ℕ}
 use native.Mathlib.Omega.{arith}
 use borrow.Author.Needs.{needs}
+use Rattle.tns_refusals.specs.Refusals.{numberOf}
+use Rattle.tns_blocks.specs.Told.{blockFault}
 use Rattle.tns_program.proofs.Texts.{puts-same}
 use Rattle.tns_wording.specs.Wording.{blockRefusalText}
-use Rattle.tns_transfer.specs.Transfer.{endOf, endText}
-use Rattle.tns_transfer.specs.declared.blocks.Ended.{Ended}
-use Rattle.tns_transfer.proofs.Steps.{puts-none}
+use Rattle.tns_block_runs.specs.Runs.{endOf}
+use Rattle.tns_transfer.specs.Transfer.{endText}
+use Rattle.tns_block_runs.specs.declared.Ended.{Ended}
+use Rattle.tns_block_runs.proofs.Steps.{puts-none}
 use Rattle.tns_transfer.proofs.pieces.put_end.Statement.{statement}
 use Rattle.tns_transfer.proofs.pieces.put_end.Tie as tie
 
@@ -22,8 +25,9 @@ returns-2 c =
     let called = put .before .before in
     let told = called .before .before in
     let g = told .before .before .before .args in
+    let its : called .number .result ≡ numberOf (blockFault (told .ended .given .0 .0)) = called .number .ensures in
     puts-same
-    (ap (λ (n : ℕ). blockRefusalText n (g .put .next)) (called .number .ensures) ∙ ap (λ (ended : Ended). endText (endOf ended (g .put .next))) (sym (told .ended .given .1)))
+    (ap (λ (n : ℕ). blockRefusalText n (g .put .next)) its ∙ ap (λ (ended : Ended). endText (endOf ended (g .put .next))) (sym (told .ended .given .1)))
     (put .put-block-refusal .ensures)
 
 pub put-end-spec : {M : Type 1} → statement M

@@ -5,8 +5,8 @@ use Prim.Native.Nat.{ℕ}
 use native.Mathlib.Omega.{arith}
 use borrow.Author.Needs.{needs}
 use Rattle.io.proofs.Counting.{front}
-use Rattle.tns_transfer.specs.Transfer.{endOf}
-use Rattle.tns_transfer.specs.declared.blocks.Ended.{Ended}
+use Rattle.tns_block_runs.specs.Runs.{endOf}
+use Rattle.tns_block_runs.specs.declared.Ended.{Ended}
 use Rattle.tns_transfer.proofs.pieces.settled.Statement.{statement}
 use Rattle.tns_transfer.proofs.pieces.settled.Tie as tie
 

@@ -2,7 +2,7 @@
 use mathlib.Core.Path.{ap, sym}
 use borrow.Author.Needs.{needs}
 use Rattle.tns_transfer.specs.Transfer.{wholeBytes}
-use Rattle.tns_transfer.specs.declared.blocks.Way.{Way}
+use Rattle.tns_block_runs.specs.declared.Way.{Way}
 use Rattle.tns_transfer.proofs.pieces.whole_blocks.Statement.{statement}
 use Rattle.tns_transfer.proofs.pieces.whole_blocks.Tie as tie
 

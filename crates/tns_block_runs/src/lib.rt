@@ -1,4 +1,5 @@
-// What the blocks of a piece become: the records of a narration's blocks, or the blocks of records.
+// What the blocks in some bytes become: the records of a narration's blocks, or the blocks of records, up
+// to the first that is refused. It knows nothing of reading and writing.
 use tns_block_calls::write_block;
 use tns_blocks::BlockAnswer;
 use tns_blocks::BlockRefusal;
@@ -6,10 +7,10 @@ use tns_blocks::check_block;
 use tns_program::put;
 use tns_words::least;
 ghost use mathlib.Core.Path.{_≡_};
-ghost use Prim.Native.Nat.{_≤_, _<_, _+_};
+ghost use Prim.Native.Nat.{_≤_, _<_};
 ghost use lib.ListN.{length};
 ghost use Rattle.tns_blocks.specs.Blocks.{readVerdict, writeVerdict};
-ghost use Rattle.tns_transfer.specs.Transfer.{sizeOf, verdictOf, StepDone, PutsBlocks};
+ghost use Rattle.tns_block_runs.specs.Runs.{sizeOf, verdictOf, StepDone, PutsBlocks};
 
 // From a narration to its records, or from records to their narration.
 pub enum Way {
@@ -35,7 +36,7 @@ pub enum Step {
 
 // The records of a block, after the first `at` bytes of the output.
 fn put_records(number: u64, portion: &[u8], out: &mut [u8], at: usize) -> Step
-    requires { ⌜ at + 512 ≤ length (now out) ⌝ }
+    requires { ⌜ at ≤ length (now out) ⌝ }
     ensures { λ r. ⌜ StepDone (readVerdict number (now (portion .entry))) (now (out .entry)) at (now (out .exit)) r ⌝ }
 {
     let answer = check_block(number, portion);
@@ -53,7 +54,7 @@ fn put_records(number: u64, portion: &[u8], out: &mut [u8], at: usize) -> Step
 
 // The block of some records, likewise.
 fn put_written(number: u64, portion: &[u8], out: &mut [u8], at: usize) -> Step
-    requires { ⌜ (at + 512 ≤ length (now out)) × (0 < length (now portion)) ⌝ }
+    requires { ⌜ (at ≤ length (now out)) × (0 < length (now portion)) ⌝ }
     ensures { λ r. ⌜ StepDone (writeVerdict number (now (portion .entry))) (now (out .entry)) at (now (out .exit)) r ⌝ }
 {
     let mut block = [0u8; 512];
@@ -65,7 +66,7 @@ fn put_written(number: u64, portion: &[u8], out: &mut [u8], at: usize) -> Step
 }
 
 fn put_block(way: Way, number: u64, portion: &[u8], out: &mut [u8], at: usize) -> Step
-    requires { ⌜ (at + 512 ≤ length (now out)) × (0 < length (now portion)) ⌝ }
+    requires { ⌜ (at ≤ length (now out)) × (0 < length (now portion)) ⌝ }
     ensures { λ r. ⌜ StepDone (verdictOf way number (now (portion .entry))) (now (out .entry)) at (now (out .exit)) r ⌝ }
 {
     match way {
@@ -88,10 +89,10 @@ pub struct Done {
 }
 
 // Puts what the blocks in some bytes become, the first of this number, up to the first that is refused.
-// What is left over of the bytes is a block too.
+// What is left over of the bytes is a block too. It takes any numbers and lists; the promise is for a
+// piece of input and room for what becomes of it.
 pub fn put_blocks(way: Way, number: u64, bytes: &[u8], out: &mut [u8]) -> Done
-    requires { ⌜ (number ≤ 65536) × (length (now bytes) ≤ 61440) × (66048 ≤ length (now out)) ⌝ }
-    ensures { λ r. ⌜ PutsBlocks way number (now (bytes .entry)) (now (out .exit)) r ⌝ }
+    ensures { λ r. ⌜ ((number ≤ 65536) × (length (now (bytes .entry)) ≤ 61440) × (66048 ≤ length (now (out .entry))) → PutsBlocks way number (now (bytes .entry)) (now (out .exit)) r) ⌝ }
 {
     let size = size_of(way);
     let mut at = 0usize;

@@ -6,9 +6,9 @@ use lib.ListN.{replicate}
 use Rattle.tns_blocks.specs.Blocks.{countIn, writeVerdict}
 use Rattle.tns_blocks.specs.Told.{blockSays}
 use Rattle.tns_blocks.proofs.Verdicts.{refused-too}
-use Rattle.tns_transfer.proofs.Steps.{WrittenBlock, in-buffer}
-use Rattle.tns_transfer.proofs.blocks.put_written.Statement.{statement}
-use Rattle.tns_transfer.proofs.blocks.put_written.Tie as tie
+use Rattle.tns_block_runs.proofs.Steps.{WrittenBlock, in-buffer}
+use Rattle.tns_block_runs.proofs.put_written.Statement.{statement}
+use Rattle.tns_block_runs.proofs.put_written.Tie as tie
 
 written : (c : tie.After-enum-told) →
     let called = c .before .before in

@@ -1,5 +1,5 @@
--- The invariant: what is put so far, and then the run over the blocks that are left, is the run over all. A block that another follows takes 480
--- bytes of input at least and adds 512 to the output at most, so that there is room for one more.
+-- The invariant: for a piece, what is put so far, and then the run over the blocks that are left, is the run over all. A block that another follows
+-- takes 480 bytes of input at least and adds 512 to the output at most, so that there is room for one more.
 use mathlib.Core.Path.{_≡_, refl, sym, _∙_, ap, subst}
 use mathlib.Core.List.{List, _++_, append-assoc, append-nil}
 use Prim.Native.Nat.{ℕ, suc, _+_, _-_, _*_, _<_, _≤_, min}
@@ -13,13 +13,13 @@ use Rattle.tns_lists.proofs.Portions.{portions-at, portions-none}
 use Rattle.tns_refusals.specs.Refusals.{Fault, Verdict, accepted, refused}
 use Rattle.tns_narrations.specs.Files.{whole, refusedAt, Outcome, nothing, before, goOn, runFrom}
 use Rattle.tns_narrations.proofs.ReadBack.{run-none}
-use Rattle.tns_transfer.specs.Transfer.{sizeOf, verdictOf, StepDone, blocksOf}
-use Rattle.tns_transfer.specs.declared.blocks.Way.{Way}
-use Rattle.tns_transfer.specs.declared.blocks.Way.the-variants.{ToRecords, ToBlocks}
-use Rattle.tns_transfer.specs.declared.blocks.Step.{Step}
-use Rattle.tns_transfer.proofs.Steps.{all-put, put-few, in-range}
-use Rattle.tns_transfer.proofs.blocks.put_blocks.Statement.{statement}
-use Rattle.tns_transfer.proofs.blocks.put_blocks.Tie as tie
+use Rattle.tns_block_runs.specs.Runs.{sizeOf, verdictOf, StepDone, blocksOf}
+use Rattle.tns_block_runs.specs.declared.Way.{Way}
+use Rattle.tns_block_runs.specs.declared.Way.the-variants.{ToRecords, ToBlocks}
+use Rattle.tns_block_runs.specs.declared.Step.{Step}
+use Rattle.tns_block_runs.proofs.Steps.{all-put, put-few, in-range}
+use Rattle.tns_block_runs.proofs.put_blocks.Statement.{statement}
+use Rattle.tns_block_runs.proofs.put_blocks.Tie as tie
 
 enough : (way : Way) → 480 ≤ sizeOf way
 enough ToRecords = omega arith
@@ -61,17 +61,26 @@ module _ (way : Way) (number : ℕ) (bytes : List ℕ) where
       in
       ap (λ (l : List ℕ). record { given = l; end = whole }) (sym (append-nil so-far)) ∙ ap (before so-far) (sym none) ∙ is
 
+-- what the promise is for
+abbrev Piece : ℕ → List ℕ → List ℕ → Type 0
+Piece number bytes out = (number ≤ 65536) × (length bytes ≤ 61440) × (66048 ≤ length out)
+
+record SoFar (way : Way) (number : ℕ) (bytes out : List ℕ) (at from next : ℕ) : Type 0 where
+  in-reach : next ≤ 65536
+  room : from < length bytes → 480 * at ≤ 512 * from
+  run : before (take at out) (blocksOf way next (drop from bytes)) ≡ blocksOf way number bytes
+
 abbrev Inv-loop : tie.InvT-loop
 Inv-loop way number bytes out₀ size at₀ from₀ next₀ out at from next =
-    (length out ≡ length out₀) × (from ≤ length bytes) × (next ≤ 65536) × (from < length bytes → 480 * at ≤ 512 * from) × Counts at out
-    × (before (take at out) (blocksOf way next (drop from bytes)) ≡ blocksOf way number bytes)
+    (length out ≡ length out₀) × (from ≤ length bytes) × Counts at out
     × (next + length (portions (sizeOf way) (drop from bytes)) ≡ number + length (portions (sizeOf way) bytes))
+    × (Piece number bytes out₀ → SoFar way number bytes out at from next)
 
 abbrev μ-loop : tie.MeasureT-loop
 μ-loop way number bytes out₀ size at₀ from₀ next₀ out at from next = length bytes - from
 
 loop-holds : tie.Need-loop-holds Inv-loop μ-loop
-loop-holds c = (refl, omega arith, omega (arith, c .before .before .before .pre .0), (λ h. omega arith), (omega arith, refl), refl, refl)
+loop-holds c = (refl, omega arith, (omega arith, refl), refl, λ piece. record { in-reach = piece .0; room = λ h. omega arith; run = refl })
 
 never : {number : ℕ} {fault : Fault} {A : Type 0} → refusedAt number fault ≡ whole → A
 never e = let z : _≡_ {A = ℕ} 0 1 = cc in absurd (omega arith)
@@ -92,9 +101,8 @@ put-block-requires c κs =
     let cut = c .before .before in
     let l = cut .before .before .loop in
     let start = cut .before .before .before .before .before .before in
-    let bytes = start .args .bytes .now in
-    let room = l .inv .3 (omega arith) in (
-      omega (arith, room, l .inv .0, start .pre .1, start .pre .2),
+    let bytes = start .args .bytes .now in (
+      l .inv .2 .0,
       omega (arith, ends cut, enough (start .args .way), length-take (cut .least .result - l .from) (drop (l .from) bytes), length-drop (l .from) bytes),
     )
 
@@ -120,14 +128,33 @@ returns c =
     let g = cut .before .before .before .before .before .before .args in
     let refused-there = done called _ (told .step .given .1) in
     let same : called .put-block .last .1 .1 .1 .0 ≡ l .out = refused-there .1 in
-    let run = stops (g .way) (g .number) (g .bytes .now) (l .from) (cut .least .result) (l .next) (omega arith) (ends cut) (take (l .at) (l .out)) (l .inv .5) _ (refused-there .0) in
+    λ piece.
+    let so-far = l .inv .4 piece in
+    let run = stops (g .way) (g .number) (g .bytes .now) (l .from) (cut .least .result) (l .next) (omega arith) (ends cut) (take (l .at) (l .out)) (so-far .run) _ (refused-there .0) in
     record {
-      counts = subst (Counts (l .at)) (sym same) (l .inv .4);
+      counts = subst (Counts (l .at)) (sym same) (l .inv .2);
       given = ap (take (l .at)) same ∙ ap (λ (o : Outcome). o .given) run;
       end = ap (λ (o : Outcome). o .end) run;
       on = λ e. never (ap (λ (o : Outcome). o .end) run ∙ e);
-      in-range = l .inv .2;
+      in-range = so-far .in-reach;
     }
+
+-- a block that was put is not past the last
+not-last : (told : tie.After-step2 Inv-loop μ-loop) →
+    let cut = told .before .before .before .before .before .before .before in
+    cut .before .before .loop .next ≤ 65535
+not-last told =
+    let called = told .before .before .before .before in
+    let cut = called .before .before .before in
+    let l = cut .before .before .loop in
+    let g = cut .before .before .before .before .before .before .args in
+    let bytes = g .bytes .now in
+    let put = done called _ (told .step2 .given .1) in
+    let portion = take (cut .least .result - l .from) (drop (l .from) bytes) in
+    let some : 0 < length portion =
+    omega (arith, ends cut, enough (g .way), length-take (cut .least .result - l .from) (drop (l .from) bytes), length-drop (l .from) bytes)
+    in
+    in-range (g .way) (l .next) portion (put .given) some (put .took)
 
 loop-again : tie.Need-loop-again Inv-loop μ-loop
 loop-again c =
@@ -139,40 +166,43 @@ loop-again c =
     let g = start .args in
     let bytes = g .bytes .now in
     let put = done called _ (told .step2 .given .1) in
-    let room = l .inv .3 (omega arith) in
-    let portion = take (cut .least .result - l .from) (drop (l .from) bytes) in
-    let some : 0 < length portion =
-    omega (arith, ends cut, enough (g .way), length-take (cut .least .result - l .from) (drop (l .from) bytes), length-drop (l .from) bytes)
-    in
-    let all = all-put (put .given) (l .out) (l .at) _ (called .put-block .last .1 .1 .1 .0) (put .puts) (omega (arith, room, l .inv .0, start .pre .1, start .pre .2, put .few)) in
     let more = put-few (put .given) (l .out) (l .at) _ (called .put-block .last .1 .1 .1 .0) (put .puts) in
     let one : l .next + 1 ≡ suc (l .next) = add-one (l .next) in (
       omega arith,
       omega (arith, ends cut),
-      omega (arith, in-range (g .way) (l .next) portion (put .given) some (put .took)),
-      (λ h. omega (arith, room, more, put .few, ends cut, enough (g .way))),
       put .puts .counts,
-      ap (λ (b : List ℕ). before b (blocksOf (g .way) (l .next + 1) (drop (cut .least .result) bytes))) all
-          ∙ ap (λ (n : ℕ). before (take (l .at) (l .out) ++ put .given) (blocksOf (g .way) n (drop (cut .least .result) bytes))) one
-          ∙ goes-on (g .way) (g .number) bytes (l .from) (cut .least .result) (l .next) (omega arith) (ends cut) (take (l .at) (l .out)) (l .inv .5) (put .given) (put .took),
-      omega (arith, ap length (portions-at (sizeOf (g .way)) (omega (arith, enough (g .way))) (l .from) (cut .least .result) bytes (omega arith) (ends cut)), l .inv .6),
+      omega (arith, ap length (portions-at (sizeOf (g .way)) (omega (arith, enough (g .way))) (l .from) (cut .least .result) bytes (omega arith) (ends cut)), l .inv .3),
+      λ piece.
+          let so-far = l .inv .4 piece in
+          let room = so-far .room (omega arith) in
+          let all = all-put (put .given) (l .out) (l .at) _ (called .put-block .last .1 .1 .1 .0) (put .puts) (omega (arith, room, l .inv .0, piece .1, piece .2, put .few)) in
+          record {
+            in-reach = omega (arith, not-last told);
+            room = λ h. omega (arith, room, more, put .few, ends cut, enough (g .way));
+            run =
+                ap (λ (b : List ℕ). before b (blocksOf (g .way) (l .next + 1) (drop (cut .least .result) bytes))) all
+                ∙ ap (λ (n : ℕ). before (take (l .at) (l .out) ++ put .given) (blocksOf (g .way) n (drop (cut .least .result) bytes))) one
+                ∙ goes-on (g .way) (g .number) bytes (l .from) (cut .least .result) (l .next) (omega arith) (ends cut) (take (l .at) (l .out)) (so-far .run) (put .given) (put .took);
+          },
     )
 
 returns-2 : tie.Need-returns-2 Inv-loop μ-loop
 returns-2 c =
     let l = c .before .loop in
     let g = c .before .before .before .before .before .args in
-    let run = all-done (g .way) (g .number) (g .bytes .now) (l .from) (l .next) (take (l .at) (l .out)) (omega arith) (l .inv .5) in
     let past : length (g .bytes .now) ≤ l .from = omega arith in
     let none : length (portions (sizeOf (g .way)) (drop (l .from) (g .bytes .now))) ≡ 0 =
     ap (λ (b : List ℕ). length (portions (sizeOf (g .way)) b)) (drop-of-length-le (g .bytes .now) past) ∙ ap length (portions-none (sizeOf (g .way)))
     in
+    λ piece.
+    let so-far = l .inv .4 piece in
+    let run = all-done (g .way) (g .number) (g .bytes .now) (l .from) (l .next) (take (l .at) (l .out)) (omega arith) (so-far .run) in
     record {
-      counts = l .inv .4;
+      counts = l .inv .2;
       given = ap (λ (o : Outcome). o .given) run;
       end = ap (λ (o : Outcome). o .end) run;
-      on = λ e. omega (arith, none, l .inv .6);
-      in-range = l .inv .2;
+      on = λ e. omega (arith, none, l .inv .3);
+      in-range = so-far .in-reach;
     }
 
 pub put-blocks-spec : {M : Type 1} → statement M
@@ -193,7 +223,7 @@ put-blocks-spec =
     (λ c. search needs)
     returns
     (λ c. search needs)
-    (λ c. omega (arith, c .before .before .before .before .before .before .before .before .before .before .loop .inv .2))
+    (λ c. omega (arith, not-last (c .before)))
     (λ c. omega (arith, ends (c .before .before .before .before .before .before .before .before), enough (c .before .before .before .before .before .before .before .before .before .before .before .before .before .before .args .way)))
     loop-again
     (λ c. search needs)

@@ -1,10 +1,10 @@
 -- By the way.
 use mathlib.Core.Path.{sym, subst}
 use borrow.Author.Needs.{needs}
-use Rattle.tns_transfer.specs.Transfer.{verdictOf, StepDone}
-use Rattle.tns_transfer.specs.declared.blocks.Way.{Way}
-use Rattle.tns_transfer.proofs.blocks.put_block.Statement.{statement}
-use Rattle.tns_transfer.proofs.blocks.put_block.Tie as tie
+use Rattle.tns_block_runs.specs.Runs.{verdictOf, StepDone}
+use Rattle.tns_block_runs.specs.declared.Way.{Way}
+use Rattle.tns_block_runs.proofs.put_block.Statement.{statement}
+use Rattle.tns_block_runs.proofs.put_block.Tie as tie
 
 returns : tie.Need-returns
 returns c =

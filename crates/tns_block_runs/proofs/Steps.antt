@@ -1,7 +1,7 @@
 -- Laws of one block that is put: how many bytes it may add, and that what was written to a buffer of zeros is the block.
 use mathlib.Core.Path.{_≡_, sym, _∙_, ap}
 use mathlib.Core.List.{List, [], _++_, append-nil}
-use Prim.Native.Nat.{ℕ, _+_, _-_, _≤_, _<_}
+use Prim.Native.Nat.{ℕ, _+_, _≤_, _<_}
 use native.Mathlib.Decide.{decLt}
 use native.Mathlib.Omega.{arith}
 use lib.ListN.{length, take, length-take, length-append, drop-of-length-le}
@@ -15,14 +15,9 @@ use Rattle.tns_blocks.proofs.Verdicts.{accepted-block, some-bytes, accepted-too
 use Rattle.tns_block_calls.proofs.Buffers.{as-told}
 use Rattle.tns_program.specs.Text.{after, Puts}
 use Rattle.tns_program.proofs.Texts.{counted}
-use Rattle.tns_program.specs.declared.streams.Read.{Read}
-use Rattle.tns_program.specs.declared.streams.Read.the-variants as read
-use Rattle.tns_narrations.specs.Files.{Outcome}
-use Rattle.io.specs.Counts.{Counts}
-use Rattle.tns_transfer.specs.declared.pieces.Standing.{Standing}
-use Rattle.tns_transfer.specs.Transfer.{verdictOf, wholeBytes, knownBytes, Lies, AnswersRead}
-use Rattle.tns_transfer.specs.declared.blocks.Way.{Way}
-use Rattle.tns_transfer.specs.declared.blocks.Way.the-variants.{ToRecords, ToBlocks}
+use Rattle.tns_block_runs.specs.Runs.{verdictOf}
+use Rattle.tns_block_runs.specs.declared.Way.{Way}
+use Rattle.tns_block_runs.specs.declared.Way.the-variants.{ToRecords, ToBlocks}
 
 -- nothing is put by leaving everything
 pub puts-none : (found : List ℕ) (at : ℕ) → at ≤ length found → Puts [] found at at found
@@ -78,29 +73,3 @@ in-buffer number records found left count some whole e h =
     as-told (accepted (from .of)) (writeVerdict number records) found left (sym (from .verdict)) h ∙ ap (λ (l : List ℕ). from .of ++ l) (drop-of-length-le found past) ∙ append-nil (from .of)
     in
     record { took = from .verdict ∙ ap accepted (sym same); long = ap length same ∙ long }
-
--- ---- what is whole of a piece
-
-pub whole-within : (way : Way) (read : ℕ) → wholeBytes way read ≤ read
-whole-within ToRecords read = omega arith
-whole-within ToBlocks read = omega arith
-
--- and what is left is less than a block
-pub rest-below : (way : Way) (read : ℕ) → read - wholeBytes way read < 512
-rest-below ToRecords read = omega arith
-rest-below ToBlocks read = omega arith
-
-pub known-within : (way : Way) (held : ℕ) → knownBytes way held ≤ held
-known-within ToRecords held = omega arith
-known-within ToBlocks held = omega arith
-
--- what was counted and taken lies there
-pub it-lies : (count : ℕ) (left : List ℕ) (outcome : Outcome) → Counts count left → take count left ≡ outcome .given → Lies outcome left
-it-lies count left outcome counts e = ap (λ (n : ℕ). take n left) (sym (counted count left (outcome .given) counts e)) ∙ e
-
--- whatever a read gives, number and bytes held stay in range
-pub still-in-range : (way : Way) (got : Read) (standing : Standing) (found left output : List ℕ) (result : Standing) → AnswersRead way got standing found left output result
-    → (result .number ≤ 65536) × (result .held < 512)
-still-in-range way (read.Bytes count) standing found left output result a = (a .in-range, omega (arith, a .so-many, rest-below way (standing .held + count)))
-still-in-range way read.End standing found left output result a = (a .in-range, omega (arith, a .none))
-still-in-range way read.Failed standing found left output result a = (a .in-range, omega (arith, a .none))
