@@ -11,7 +11,7 @@ use Rattle.tns_rows.specs.declared.row.Row.{Row}
 use Rattle.tns_rows.proofs.Bands.{SoundRow}
 use Rattle.tns_calls.proofs.Calls.{Ready}
 use Rattle.tns_lattices.specs.Lattice.{atRest}
-use Rattle.tns_lattices.specs.DecoderLattice.{lineDecoded}
+use Rattle.tns_decoder_lattice.specs.DecoderLattice.{lineDecoded}
 use Rattle.tns_filters.specs.Filters.{Filter, FilteredRow}
 use Rattle.tns_filters.specs.Split.{rowBelowLine, rowFromLine}
 use Rattle.tns_filters.proofs.Split.{row-below-sound, row-from-sound, two-runs}

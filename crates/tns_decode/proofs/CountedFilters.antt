@@ -10,8 +10,8 @@ use Rattle.tns_lists.proofs.Counted.{none-of-them, one-of-them, two-of-them}
 use Rattle.tns_rows.specs.declared.row.Row.{Row}
 use Rattle.tns_rows.proofs.Bands.{SoundRow}
 use Rattle.tns_lattices.specs.Lattice.{atRest}
-use Rattle.tns_lattices.specs.DecoderLattice.{lineDecoded}
-use Rattle.tns_lattices.proofs.Idle.{decoder-idle}
+use Rattle.tns_decoder_lattice.specs.DecoderLattice.{lineDecoded}
+use Rattle.tns_decoder_lattice.proofs.Idle.{decoder-idle}
 use Rattle.tns_filters.specs.Filters.{Filter, FilteredIn, FilteredRow}
 use Rattle.tns_filters.proofs.Filters.{none-run, one-run, two-run, at-rest, idle-filter}
 use Rattle.tns_decode.specs.Decoder.{decoderFilter, rowDecoded}

@@ -10,7 +10,7 @@ use Rattle.tns_rows.specs.Durations.{durationOf}
 use Rattle.tns_rows.specs.Bands.{rowOf, noBand}
 use Rattle.tns_rows.specs.declared.row.Row.{Row}
 use Rattle.tns_lattices.specs.Lattice.{atRest}
-use Rattle.tns_lattices.specs.DecoderLattice.{lineDecoded}
+use Rattle.tns_decoder_lattice.specs.DecoderLattice.{lineDecoded}
 use Rattle.tns_filters.proofs.Filters.{acting, no-lines}
 use Rattle.tns_decode.specs.Decoder.{rowDecoded, decodeChecks, spectrumDecoded}
 use Rattle.tns_decode.proofs.CountedFilters.{first, second, one-counted, two-counted, row-is-decoded}

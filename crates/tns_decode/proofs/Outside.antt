@@ -14,7 +14,7 @@ use Rattle.tns_rows.specs.declared.row.Row.{Row}
 use Rattle.tns_rows.proofs.Bands.{SoundRow}
 use Rattle.tns_rows.proofs.Apart.{Outside}
 use Rattle.tns_frames.proofs.Frames.{accepted-row}
-use Rattle.tns_lattices.specs.DecoderLattice.{lineDecoded}
+use Rattle.tns_decoder_lattice.specs.DecoderLattice.{lineDecoded}
 use Rattle.tns_filters.specs.Filters.{Filter}
 use Rattle.tns_filters.proofs.Calls as calls
 use Rattle.tns_decode.specs.Decoder.{decoderFilter, rowDecoded, decodeChecks, spectrumDecoded}

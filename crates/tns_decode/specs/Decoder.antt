@@ -11,7 +11,7 @@ use Rattle.tns_rows.specs.Durations.{durationOf}
 use Rattle.tns_rows.specs.Bands.{rowOf}
 use Rattle.tns_rows.specs.declared.row.Row.{Row}
 use Rattle.tns_calls.specs.Calls.{callChecks}
-use Rattle.tns_lattices.specs.DecoderLattice.{lineDecoded}
+use Rattle.tns_decoder_lattice.specs.DecoderLattice.{lineDecoded}
 use Rattle.tns_filters.specs.Filters.{Filter, filterWith, rowFiltered}
 use Rattle.tns_decode.specs.declared.DecodeAnswer.{DecodeAnswer}
 use Rattle.tns_decode.specs.declared.DecodeAnswer.the-variants.{Decoded, Refused}

@@ -12,7 +12,7 @@ use Rattle.tns_rows.specs.Bands.{rowOf}
 use Rattle.tns_rows.specs.declared.row.Row.{Row}
 use Rattle.tns_calls.specs.Calls.{lineCallChecks, lineSays}
 use Rattle.tns_lattices.specs.Lattice.{atRest}
-use Rattle.tns_lattices.specs.DecoderLattice.{lineDecoded}
+use Rattle.tns_decoder_lattice.specs.DecoderLattice.{lineDecoded}
 use Rattle.tns_filters.specs.Filters.{rowRun}
 use Rattle.tns_filters.specs.Split.{rowBelowLine, rowFromLine}
 use Rattle.tns_decode.specs.Decoder.{decoderFilter, rowDecoded, spectrumDecoded}

@@ -18,7 +18,7 @@ use Rattle.tns_rows.proofs.Bands.{Fits, SoundRow, Cut, row-cut}
 use Rattle.tns_rows.proofs.Apart.{Outside, inside-length, inside-at}
 use Rattle.tns_frames.specs.Frames.{frameChecks}
 use Rattle.tns_frames.proofs.Frames.{accepted-row, same-result}
-use Rattle.tns_lattices.specs.EncoderLattice.{lineEncoded}
+use Rattle.tns_encoder_lattice.specs.EncoderLattice.{lineEncoded}
 use Rattle.tns_filters.proofs.Calls as calls
 use Rattle.tns_lags.specs.Autocorrelation.{autocorrelation}
 use Rattle.tns_analysis.specs.Analysis.{filterRecord, reflectionsOf}

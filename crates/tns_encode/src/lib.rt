@@ -2,9 +2,9 @@
 // `encode`, its analysis in `row_encoded`, then both filters in the caller's own spectrum, each over
 // the lines of its band.
 use tns_analysis::analyse_frame;
+use tns_encoder_lattice::band_encoded;
 use tns_frames::FrameAnswer;
 use tns_frames::check_frame;
-use tns_lattices::band_encoded;
 use tns_refusals::Refusal;
 use tns_rows::Band;
 use tns_rows::Row;
@@ -18,7 +18,7 @@ ghost use lib.ListN.{length};
 ghost use Rattle.tns_rows.specs.Durations.{durationOf};
 ghost use Rattle.tns_rows.specs.Bands.{rowOf};
 ghost use Rattle.tns_rows.proofs.Bands.{Fits, SoundRow};
-ghost use Rattle.tns_lattices.specs.EncoderLattice.{lineEncoded};
+ghost use Rattle.tns_encoder_lattice.specs.EncoderLattice.{lineEncoded};
 ghost use Rattle.tns_filters.specs.Filters.{filterWith, FilteredIn};
 ghost use Rattle.tns_side.specs.Side.{noFilter};
 ghost use Rattle.tns_side.specs.Limits.{Reported};

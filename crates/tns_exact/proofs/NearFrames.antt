@@ -20,7 +20,7 @@ use Rattle.tns_rows.specs.declared.row.Row.{Row}
 use Rattle.tns_rows.proofs.Bands.{Fits, SoundRow}
 use Rattle.tns_rows.proofs.Apart.{inside-length, inside-at, row-apart, in-row}
 use Rattle.tns_lattices.specs.Lattice.{atRest, statesBy}
-use Rattle.tns_lattices.specs.EncoderLattice.{lineEncoded}
+use Rattle.tns_encoder_lattice.specs.EncoderLattice.{lineEncoded}
 use Rattle.tns_filters.proofs.Filters.{partFiltered, filtered-inside}
 use Rattle.tns_side.specs.Quantized.{quantizedOf, absent}
 use Rattle.tns_side.specs.Limits.{Within8}

@@ -20,10 +20,10 @@ use Rattle.tns_rounding.proofs.Values.{enters, leaves}
 use Rattle.tns_rounding.proofs.Factors.{Factor}
 use Rattle.tns_rounding.specs.Floats.{f0}
 use Rattle.tns_lists.specs.Lines.{linesThrough, stateThrough}
-use Rattle.tns_lattices.specs.EncoderLattice.{stageUp, stagesTo, entering, lineEncoded}
+use Rattle.tns_encoder_lattice.specs.EncoderLattice.{stageUp, stagesTo, entering, lineEncoded}
 use Rattle.tns_lattices.specs.Lattice.{atRest, linesBy, statesBy}
 use Rattle.tns_exact.specs.Exact.{finer, ExactPassing, ExactPassed, exactStage, exactStagesTo, exactEntering, lineExact, linesExact, statesExact, exactRest, nearness, EachNear}
-use Rattle.tns_lattices.specs.declared.encoder.Passing.{Passing}
+use Rattle.tns_encoder_lattice.specs.declared.Passing.{Passing}
 use Rattle.tns_lattices.specs.declared.Passed.{Passed}
 
 -- ---- after k stages

@@ -2,7 +2,7 @@
 use mathlib.Core.List.{List, [], _∷_}
 use lib.Ieee.{Float}
 use Rattle.tns_rows.specs.declared.row.Row.{Row}
-use Rattle.tns_lattices.specs.EncoderLattice.{lineEncoded}
+use Rattle.tns_encoder_lattice.specs.EncoderLattice.{lineEncoded}
 use Rattle.tns_filters.specs.Filters.{Filter, filterWith, rowFiltered}
 use Rattle.tns_side.specs.declared.SideData.{SideData}
 

@@ -14,7 +14,7 @@ use Rattle.tns_index.specs.Quantizer.{coefficientOf}
 use Rattle.tns_rows.specs.Bands.{rowOf}
 use Rattle.tns_frames.specs.Frames.{frameChecks}
 use Rattle.tns_lattices.specs.Lattice.{linesBy, statesBy}
-use Rattle.tns_lattices.specs.DecoderLattice.{stageDown, stagesBelow, lineDecoded}
+use Rattle.tns_decoder_lattice.specs.DecoderLattice.{stageDown, stagesBelow, lineDecoded}
 use Rattle.tns_filters.specs.Filters.{bandsRun, rowFiltered}
 use Rattle.tns_decode.specs.Decoder.{rowDecoded, decodeChecks, spectrumDecoded}
 

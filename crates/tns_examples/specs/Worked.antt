@@ -24,7 +24,7 @@ use Rattle.tns_reflections.specs.Reflections.{powerFrom, power, damped, rowBelo
 use Rattle.tns_analysis.specs.Analysis.{filterRecord, reflectionsOf}
 use Rattle.tns_side.specs.Quantized.{quantizedOf, absent}
 use Rattle.tns_lattices.specs.Lattice.{linesBy, statesBy}
-use Rattle.tns_lattices.specs.EncoderLattice.{stageUp, stagesTo, lineEncoded}
+use Rattle.tns_encoder_lattice.specs.EncoderLattice.{stageUp, stagesTo, lineEncoded}
 use Rattle.tns_filters.specs.Filters.{bandsRun, rowFiltered}
 use Rattle.tns_exact.specs.SideFilters.{filteredBy}
 use Rattle.tns_analysis.specs.FrameSide.{filterOf, secondOf, sideOf}

@@ -1,23 +1,13 @@
 -- A filter of order 0 changes neither lines nor states: one law over the lattice, which both keep.
-use mathlib.Core.Path.{_≡_, refl, ap}
+use mathlib.Core.Path.{_≡_, ap}
 use mathlib.Core.List.{List}
 use lib.Ieee.{Float, nan}
 use Rattle.tns_lists.proofs.InPlace.{lines-unchanged, state-unchanged}
 use Rattle.tns_lattices.specs.Lattice.{Lattice, linesBy, statesBy, Filtered}
-use Rattle.tns_lattices.specs.DecoderLattice.{lineDecoded}
-use Rattle.tns_lattices.specs.EncoderLattice.{lineEncoded}
 use Rattle.tns_lattices.specs.declared.Passed.{Passed}
 
 abbrev pub Idle : Lattice → Type 0
 Idle lattice = (q states : List Float) (line : Float) → lattice q 0 states line ≡ record { t = line; states = states }
-
-pub decoder-idle : Idle lineDecoded
-unfolding lineDecoded
-decoder-idle q states line = refl
-
-pub encoder-idle : Idle lineEncoded
-unfolding lineEncoded
-encoder-idle q states line = refl
 
 pub order-0 : (lattice : Lattice) → Idle lattice → (q states lines : List Float) → Filtered lattice q 0 states lines states lines
 unfolding linesBy statesBy

@@ -1,4 +1,3 @@
--- The laws that belong to no one function.
+-- The laws that belong to no one lattice.
 pub mod BandLines
 pub mod Idle
-pub mod Determined

@@ -1,4 +1,2 @@
--- What a reader has to believe of the lattices, in the order of document 01's words.
+-- What a reader has to believe of any lattice.
 pub mod Lattice
-pub mod EncoderLattice
-pub mod DecoderLattice

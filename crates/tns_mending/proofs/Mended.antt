@@ -18,7 +18,7 @@ use Rattle.tns_rows.proofs.Bands.{SoundRow}
 use Rattle.tns_calls.specs.Calls.{lineCallChecks}
 use Rattle.tns_calls.proofs.Calls.{ready}
 use Rattle.tns_lattices.specs.Lattice.{atRest}
-use Rattle.tns_lattices.specs.DecoderLattice.{lineDecoded}
+use Rattle.tns_decoder_lattice.specs.DecoderLattice.{lineDecoded}
 use Rattle.tns_filters.specs.Filters.{Filter, rowRun, rowFiltered}
 use Rattle.tns_filters.specs.Split.{Begins, rowBelowLine}
 use Rattle.tns_filters.proofs.EitherSide.{none-states, one-states, two-states, goes-on}

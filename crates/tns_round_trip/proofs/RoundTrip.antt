@@ -16,7 +16,7 @@ use Rattle.tns_rows.specs.Bands.{rowOf}
 use Rattle.tns_rows.specs.declared.row.Row.{Row}
 use Rattle.tns_frames.specs.Frames.{frameChecks}
 use Rattle.tns_frames.proofs.Frames.{frames-settle}
-use Rattle.tns_lattices.specs.DecoderLattice.{lineDecoded}
+use Rattle.tns_decoder_lattice.specs.DecoderLattice.{lineDecoded}
 use Rattle.tns_filters.specs.Filters.{Filter, rowFiltered}
 use Rattle.tns_side.specs.Side.{ordersIn, indicesIn, coefficientsIn}
 use Rattle.tns_side.specs.declared.Quantized.{Quantized}

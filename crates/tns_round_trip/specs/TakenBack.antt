@@ -9,7 +9,7 @@ use Rattle.tns_lists.specs.Counted.{counted}
 use Rattle.tns_refusals.specs.Refusals.{noFault}
 use Rattle.tns_rows.specs.Durations.{durationOf}
 use Rattle.tns_rows.specs.Bands.{rowOf}
-use Rattle.tns_lattices.specs.DecoderLattice.{lineDecoded}
+use Rattle.tns_decoder_lattice.specs.DecoderLattice.{lineDecoded}
 use Rattle.tns_filters.specs.Filters.{Filter, rowFiltered}
 use Rattle.tns_side.specs.Side.{ordersIn, indicesIn, coefficientsIn}
 use Rattle.tns_side.specs.declared.SideData.{SideData}

@@ -3,8 +3,8 @@ use mathlib.Core.Path.{_∙_, ap}
 use mathlib.Core.List.{map}
 use borrow.Author.Needs.{needs}
 use Rattle.tns_index.specs.Quantizer.{coefficientOf}
-use Rattle.tns_lattices.specs.DecoderLattice.{lineDecoded}
-use Rattle.tns_lattices.proofs.Idle.{decoder-idle}
+use Rattle.tns_decoder_lattice.specs.DecoderLattice.{lineDecoded}
+use Rattle.tns_decoder_lattice.proofs.Idle.{decoder-idle}
 use Rattle.tns_filters.proofs.Filters.{idle-filter, no-lines, lent-back}
 use Rattle.tns_decode.specs.Decoder.{decoderFilter}
 use Rattle.tns_decode.proofs.filter_decoded.Statement.{statement}

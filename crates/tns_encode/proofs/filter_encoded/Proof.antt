@@ -1,8 +1,8 @@
 -- The part that was lent comes back filtered, and the rest of the spectrum as it was.
 use mathlib.Core.Path.{refl}
 use borrow.Author.Needs.{needs}
-use Rattle.tns_lattices.specs.EncoderLattice.{lineEncoded}
-use Rattle.tns_lattices.proofs.Idle.{encoder-idle}
+use Rattle.tns_encoder_lattice.specs.EncoderLattice.{lineEncoded}
+use Rattle.tns_encoder_lattice.proofs.Idle.{encoder-idle}
 use Rattle.tns_filters.specs.Filters.{filterWith}
 use Rattle.tns_filters.proofs.Filters.{idle-filter, lent-back}
 use Rattle.tns_encode.proofs.filter_encoded.Statement.{statement}

@@ -1,6 +1,6 @@
 -- The second filter goes on from the first one's states and lines.
 use borrow.Author.Needs.{needs}
-use Rattle.tns_lattices.specs.EncoderLattice.{lineEncoded}
+use Rattle.tns_encoder_lattice.specs.EncoderLattice.{lineEncoded}
 use Rattle.tns_filters.proofs.Filters.{two-filtered}
 use Rattle.tns_exact.specs.SideFilters.{filteredBy}
 use Rattle.tns_encode.proofs.two_encoded.Statement.{statement}

@@ -1,0 +1,2 @@
+-- What a reader has to believe of the encoder's lattice.
+pub mod EncoderLattice
