@@ -2,16 +2,21 @@
 -- leave in the buffer coincides too.
 use mathlib.Core.List.{List}
 use Prim.Native.Nat.{ℕ}
-use Rattle.tns_refusals.proofs.Determined.{DeterminedWith, coincide, itself}
+use Rattle.tns_refusals.proofs.Determined.{Determined, DeterminedWith, coincide, itself}
 use Rattle.tns_blocks.specs.Told.{blockSays}
 use Rattle.tns_blocks.proofs.Determined.{answerBack, answer-back}
 use Rattle.tns_block_calls.proofs.read.read_block.Kinds as read-block-kinds
 use Rattle.tns_block_calls.proofs.read.read_block.Reads as read-block-reads
+use Rattle.tns_block_calls.proofs.write.with_sums.Kinds as with-sums-kinds
+use Rattle.tns_block_calls.proofs.write.with_sums.Reads as with-sums-reads
 use Rattle.tns_block_calls.proofs.write.write_block.Kinds as write-block-kinds
 use Rattle.tns_block_calls.proofs.write.write_block.Reads as write-block-reads
 
 read-block : DeterminedWith 2 read-block-kinds.ps read-block-kinds.r read-block-reads.Post (List ℕ) (λ κs s. s .1 .1 .0 .now)
 read-block κs a x y s t p q = (coincide blockSays answerBack answer-back (p .answer) (q .answer), itself (p .bytes) (q .bytes))
+
+with-sums : Determined 0 with-sums-kinds.ps with-sums-kinds.r with-sums-reads.Post
+with-sums κs a x y s t p q = itself p q
 
 write-block : DeterminedWith 2 write-block-kinds.ps write-block-kinds.r write-block-reads.Post (List ℕ) (λ κs s. s .1 .1 .0 .now)
 write-block κs a x y s t p q = (coincide blockSays answerBack answer-back (p .answer) (q .answer), itself (p .bytes) (q .bytes))

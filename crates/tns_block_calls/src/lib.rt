@@ -5,4 +5,5 @@ mod read;
 mod write;
 
 pub use read::read_block;
+pub use write::with_sums;
 pub use write::write_block;

@@ -38,7 +38,7 @@ fn body_of(number: u16, records: &[u8]) -> [u8; 512]
 }
 
 // A block with its sums in its last four bytes.
-fn with_sums(mut block: [u8; 512]) -> [u8; 512]
+pub fn with_sums(mut block: [u8; 512]) -> [u8; 512]
     ensures { λ r. ⌜ r ≡ take 508 block ++ sumBytes (take 508 block) ⌝ }
 {
     let sums = sums_of(&block);

@@ -1,11 +1,10 @@
--- Laws of one block that is put: how many bytes it may add, and that what was written to a buffer of zeros is the block.
+-- Laws of one block that is put: which number it may have, and that what was written to a buffer of zeros is the block.
 use mathlib.Core.Path.{_≡_, sym, _∙_, ap}
-use mathlib.Core.List.{List, [], _++_, append-nil}
+use mathlib.Core.List.{List, _++_, append-nil}
 use Prim.Native.Nat.{ℕ, _+_, _≤_, _<_}
 use native.Mathlib.Decide.{decLt}
 use native.Mathlib.Omega.{arith}
-use lib.ListN.{length, take, length-take, length-append, drop-of-length-le}
-use lib.Seq.{take-all}
+use lib.ListN.{length, take, length-take, drop-of-length-le}
 use Rattle.tns_refusals.specs.Refusals.{accepted, unlessRefused, onAccepted}
 use Rattle.tns_refusals.proofs.Sides.{not-accepted}
 use Rattle.tns_blocks.specs.Blocks.{countIn, writeVerdict}
@@ -13,38 +12,9 @@ use Rattle.tns_block_calls.specs.BlockCalls.{laidOver}
 use Rattle.tns_blocks.proofs.Laid.{block-length}
 use Rattle.tns_blocks.proofs.Verdicts.{accepted-block, some-bytes, accepted-too, block-past, written-block}
 use Rattle.tns_block_calls.proofs.Buffers.{as-told}
-use Rattle.tns_program.specs.Text.{after, Puts}
-use Rattle.tns_program.proofs.Texts.{counted}
 use Rattle.tns_block_runs.specs.Runs.{verdictOf}
 use Rattle.tns_block_runs.specs.declared.Way.{Way}
 use Rattle.tns_block_runs.specs.declared.Way.the-variants.{ToRecords, ToBlocks}
-
--- nothing is put by leaving everything
-pub puts-none : (found : List ℕ) (at : ℕ) → at ≤ length found → Puts [] found at at found
-unfolding after
-puts-none found at h =
-    record {
-      counts = (h, omega (arith, length-take at found));
-      bytes = sym (ap (take (length found)) (append-nil (take at found)) ∙ take-all (length found) (take at found) (omega (arith, length-take at found)));
-    }
-
--- where there is room, all of it is put
-pub all-put : (given found : List ℕ) (at count : ℕ) (left : List ℕ) → Puts given found at count left → at + length given ≤ length found
-    → take count left ≡ take at found ++ given
-unfolding after
-all-put given found at count left p fits =
-    p .bytes ∙ take-all (length found) (take at found ++ given) (omega (arith, length-append (take at found) given, length-take at found))
-
-pub put-few : (given found : List ℕ) (at count : ℕ) (left : List ℕ) → Puts given found at count left → count ≤ at + length given
-unfolding after
-put-few given found at count left p =
-    omega (
-      arith,
-      counted count left (take (length found) (take at found ++ given)) (p .counts) (p .bytes),
-      length-take (length found) (take at found ++ given),
-      length-append (take at found) given,
-      length-take at found,
-    )
 
 -- a block that is accepted is not past the last
 pub in-range : (way : Way) (number : ℕ) (portion given : List ℕ) → 0 < length portion → verdictOf way number portion ≡ accepted given → number ≤ 65535

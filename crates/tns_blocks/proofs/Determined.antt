@@ -24,10 +24,10 @@ number : Determined 0 number-kinds.ps number-kinds.r number-reads.Post
 number κs a x y s t p q = itself p q
 
 -- the refusal of a block back from its fault
-abbrev refusalBack : Fault → BlockRefusal
+abbrev pub refusalBack : Fault → BlockRefusal
 refusalBack fault = cond (eqb (numberOf fault) 9) Length (cond (eqb (numberOf fault) 10) Sums (cond (eqb (numberOf fault) 11) Layout Record))
 
-refusal-back : (why : BlockRefusal) → refusalBack (blockFault why) ≡ why
+pub refusal-back : (why : BlockRefusal) → refusalBack (blockFault why) ≡ why
 refusal-back Length = refl
 refusal-back Sums = refl
 refusal-back Layout = refl

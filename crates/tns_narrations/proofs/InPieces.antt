@@ -43,7 +43,7 @@ module _ (verdict : ℕ → List ℕ → Verdict (List ℕ)) where
       by-first (refused fault) = refl
 
 -- whole portions, and what comes after them
-portions-split : (size : ℕ) → 0 < size → (many : ℕ) (xs ys : List ℕ) → length xs ≡ size * many → portions size (xs ++ ys) ≡ portions size xs ++ portions size ys
+pub portions-split : (size : ℕ) → 0 < size → (many : ℕ) (xs ys : List ℕ) → length xs ≡ size * many → portions size (xs ++ ys) ≡ portions size xs ++ portions size ys
 portions-split size some zero xs ys e =
     let empty = no-members xs (omega arith) in
     ap (λ (l : List ℕ). portions size (l ++ ys)) empty ∙ ap (λ (ps : List (List ℕ)). ps ++ portions size ys) (sym (ap (portions size) empty ∙ portions-none size))

@@ -1,10 +1,10 @@
 -- Laws of a text that is put after others, piece by piece, and of a piece whose end is read anew.
 use mathlib.Core.Path.{_≡_, refl, sym, ap, _∙_, subst}
-use mathlib.Core.List.{List, [], _∷_, _++_, append-assoc}
+use mathlib.Core.List.{List, [], _∷_, _++_, append-assoc, append-nil}
 use Prim.Native.Nat.{ℕ, zero, suc, _+_, _-_, _≤_, min}
 use native.Mathlib.Omega.{arith}
 use native.Mathlib.Decide.{decLt}
-use lib.ListN.{length, take}
+use lib.ListN.{length, take, length-append, length-take}
 use borrow.Rule.Slice.PartMut.{putMid}
 use lib.Seq.{paste, take-at, take-all, take-paste, take-append-add, length-take-le}
 use Rattle.io.specs.Counts.{Counts}
@@ -65,3 +65,30 @@ held-kept held count bytes part h = take-at (take held bytes) _ held (length-tak
 -- A contract that speaks of a text fixes how many bytes there are, too: any two counts that it allows are the text's length.
 pub counted : (count : ℕ) (out text : List ℕ) → Counts count out → take count out ≡ text → count ≡ length text
 counted count out text c e = c .1 ∙ ap length e
+
+-- nothing is put by leaving everything
+pub puts-none : (found : List ℕ) (at : ℕ) → at ≤ length found → Puts [] found at at found
+unfolding after
+puts-none found at h =
+    record {
+      counts = (h, omega (arith, length-take at found));
+      bytes = sym (ap (take (length found)) (append-nil (take at found)) ∙ take-all (length found) (take at found) (omega (arith, length-take at found)));
+    }
+
+-- where there is room, all of a text is put
+pub all-put : (given found : List ℕ) (at count : ℕ) (left : List ℕ) → Puts given found at count left → at + length given ≤ length found
+    → take count left ≡ take at found ++ given
+unfolding after
+all-put given found at count left p fits =
+    p .bytes ∙ take-all (length found) (take at found ++ given) (omega (arith, length-append (take at found) given, length-take at found))
+
+pub put-few : (given found : List ℕ) (at count : ℕ) (left : List ℕ) → Puts given found at count left → count ≤ at + length given
+unfolding after
+put-few given found at count left p =
+    omega (
+      arith,
+      counted count left (take (length found) (take at found ++ given)) (p .counts) (p .bytes),
+      length-take (length found) (take at found ++ given),
+      length-append (take at found) given,
+      length-take at found,
+    )

@@ -8,9 +8,13 @@ mod streams;
 mod text;
 
 pub use streams::Read;
+pub use streams::complain;
+pub use streams::failed;
 pub use streams::keep;
 pub use streams::read_after;
+pub use streams::read_from;
 pub use streams::refuse;
 pub use streams::write;
+pub use streams::write_to;
 pub use text::put;
 pub use text::put_decimal;

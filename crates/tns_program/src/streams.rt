@@ -18,22 +18,28 @@ pub enum Read {
 }
 
 // Says what failed, and the system's reason, and that the launcher's status is 2.
-fn failed(what: &[u8]) {
+pub fn failed(what: &[u8]) {
     os::fail(what);
     io::write_all(LAUNCHER, b"2");
 }
 
-// One read of standard input, into `piece` after its first `held` bytes, which it leaves alone. A
-// failure is said at once.
-pub fn read_after(piece: &mut [u8], held: usize) -> Read
+// Says a line of a failure that the system has no reason for, and that the launcher's status is 2.
+pub fn complain(line: &[u8]) {
+    io::write_all(STDERR_FILENO, line);
+    io::write_all(LAUNCHER, b"2");
+}
+
+// One read of a descriptor, into `piece` after its first `held` bytes, which it leaves alone. A failure
+// is said at once, of what `what` names.
+pub fn read_from(descriptor: i32, what: &[u8], piece: &mut [u8], held: usize) -> Read
     ensures { λ r. ⌜ ReadAfter held (now (piece .entry)) (now (piece .exit)) r ⌝ }
 {
     if held >= piece.len() {
         return Read::End;
     }
-    let got = libc::read(STDIN_FILENO, &mut piece[held..]);
+    let got = libc::read(descriptor, &mut piece[held..]);
     if got < 0 {
-        failed(b"tns: standard input");
+        failed(what);
         return Read::Failed;
     }
     let count = io::count(got, &piece[held..]);
@@ -41,6 +47,13 @@ pub fn read_after(piece: &mut [u8], held: usize) -> Read
         return Read::End;
     }
     Read::Bytes(count)
+}
+
+// The same of standard input.
+pub fn read_after(piece: &mut [u8], held: usize) -> Read
+    ensures { λ r. ⌜ ReadAfter held (now (piece .entry)) (now (piece .exit)) r ⌝ }
+{
+    read_from(STDIN_FILENO, b"tns: standard input", piece, held)
 }
 
 // Moves `count` bytes from `from` on to the start of `piece`: those that wait for more to be read.
@@ -60,14 +73,20 @@ pub fn keep(piece: &mut [u8], from: usize, count: usize)
     }
 }
 
-// Writes all of a text to standard output, and answers whether it could. A failure is said at once.
-// It has no promise: no contract can say what a call writes, nor whether the system takes it.
-pub fn write(text: &[u8]) -> bool {
-    let is_written = io::write_all(STDOUT_FILENO, text);
+// Writes all of a text to a descriptor, and answers whether it could. A failure is said at once, of what
+// `what` names. It has no promise: no contract can say what a call writes, nor whether the system takes
+// it.
+pub fn write_to(descriptor: i32, what: &[u8], text: &[u8]) -> bool {
+    let is_written = io::write_all(descriptor, text);
     if !is_written {
-        failed(b"tns: standard output");
+        failed(what);
     }
     is_written
+}
+
+// The same of standard output.
+pub fn write(text: &[u8]) -> bool {
+    write_to(STDOUT_FILENO, b"tns: standard output", text)
 }
 
 // Says a refusal on standard error, and that the launcher's status is 1, or 2 if that cannot be said. It

@@ -17,7 +17,8 @@ use Rattle.tns_block_runs.specs.Runs.{sizeOf, verdictOf, StepDone, block
 use Rattle.tns_block_runs.specs.declared.Way.{Way}
 use Rattle.tns_block_runs.specs.declared.Way.the-variants.{ToRecords, ToBlocks}
 use Rattle.tns_block_runs.specs.declared.Step.{Step}
-use Rattle.tns_block_runs.proofs.Steps.{all-put, put-few, in-range}
+use Rattle.tns_program.proofs.Texts.{all-put, put-few}
+use Rattle.tns_block_runs.proofs.Steps.{in-range}
 use Rattle.tns_block_runs.proofs.put_blocks.Statement.{statement}
 use Rattle.tns_block_runs.proofs.put_blocks.Tie as tie
 

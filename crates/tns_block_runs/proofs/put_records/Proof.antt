@@ -10,7 +10,7 @@ use Rattle.tns_refusals.specs.Refusals.{accepted, onAccepted}
 use Rattle.tns_blocks.specs.Blocks.{countOf, readVerdict}
 use Rattle.tns_blocks.specs.Told.{blockSays}
 use Rattle.tns_blocks.proofs.Verdicts.{Given, given-some, given-none, refused-too}
-use Rattle.tns_block_runs.proofs.Steps.{puts-none}
+use Rattle.tns_program.proofs.Texts.{puts-none}
 use Rattle.tns_block_runs.proofs.put_records.Statement.{statement}
 use Rattle.tns_block_runs.proofs.put_records.Tie as tie
 

@@ -5,12 +5,11 @@ use native.Mathlib.Omega.{arith}
 use borrow.Author.Needs.{needs}
 use Rattle.tns_refusals.specs.Refusals.{numberOf}
 use Rattle.tns_blocks.specs.Told.{blockFault}
-use Rattle.tns_program.proofs.Texts.{puts-same}
+use Rattle.tns_program.proofs.Texts.{puts-same, puts-none}
 use Rattle.tns_wording.specs.Wording.{blockRefusalText}
 use Rattle.tns_block_runs.specs.Runs.{endOf}
 use Rattle.tns_transfer.specs.Transfer.{endText}
 use Rattle.tns_block_runs.specs.declared.Ended.{Ended}
-use Rattle.tns_block_runs.proofs.Steps.{puts-none}
 use Rattle.tns_transfer.proofs.pieces.put_end.Statement.{statement}
 use Rattle.tns_transfer.proofs.pieces.put_end.Tie as tie
 
