@@ -17,6 +17,8 @@ use Rattle.tns.proofs.blocks.tns_block_write.Kinds as tns-block-write-k
 use Rattle.tns.proofs.blocks.tns_block_write.Reads as tns-block-write-reads
 use Rattle.tns.proofs.blocks.tns_block_read.Kinds as tns-block-read-kinds
 use Rattle.tns.proofs.blocks.tns_block_read.Reads as tns-block-read-reads
+use Rattle.tns.proofs.rescue.tns_block_rescue.Kinds as tns-block-rescue-kinds
+use Rattle.tns.proofs.rescue.tns_block_rescue.Reads as tns-block-rescue-reads
 use Rattle.tns.proofs.tns_cost.Kinds as tns-cost-kinds
 use Rattle.tns.proofs.tns_cost.Reads as tns-cost-reads
 
@@ -48,9 +50,12 @@ tns-encode-coefficients :
     DeterminedWith 3 tns-encode-kinds.ps tns-encode-kinds.r tns-encode-reads.Post (List Float) (λ κs s. s .1 .1 .1 .1 .1 .1 .0 .now)
 tns-encode-coefficients κs a x y s t p q = (itself (p .answer) (q .answer), itself (p .coefficients) (q .coefficients))
 
--- the block, and the records
+-- the block, the records, and the block as it becomes
 tns-block-write : DeterminedWith 2 tns-block-write-kinds.ps tns-block-write-kinds.r tns-block-write-reads.Post (List ℕ) (λ κs s. s .1 .1 .0 .now)
 tns-block-write κs a x y s t p q = (itself (p .answer) (q .answer), itself (p .bytes) (q .bytes))
 
 tns-block-read : DeterminedWith 2 tns-block-read-kinds.ps tns-block-read-kinds.r tns-block-read-reads.Post (List ℕ) (λ κs s. s .1 .1 .0 .now)
 tns-block-read κs a x y s t p q = (itself (p .answer) (q .answer), itself (p .bytes) (q .bytes))
+
+tns-block-rescue : DeterminedWith 2 tns-block-rescue-kinds.ps tns-block-rescue-kinds.r tns-block-rescue-reads.Post (List ℕ) (λ κs s. s .1 .1 .0 .now)
+tns-block-rescue κs a x y s t p q = (itself (p .answer) (q .answer), itself (p .bytes) (q .bytes))

@@ -2,10 +2,13 @@
 // answer by value. Each function takes any numbers and lists and is its inner door: the answer's
 // numbers are those of the door's definition.
 mod blocks;
+mod rescue;
 
 pub use blocks::BlockTold;
 pub use blocks::tns_block_read;
 pub use blocks::tns_block_write;
+pub use rescue::RescueTold;
+pub use rescue::tns_block_rescue;
 use tns_calls::LineRefusal;
 use tns_cost::CostAnswer;
 use tns_cost::cost;
