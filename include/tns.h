@@ -1,4 +1,4 @@
-/* LC3 temporal noise shaping: the seven functions of libtns.a (x86-64), made by `rt staticlib tns`.
+/* LC3 temporal noise shaping: the eight functions of libtns.a (x86-64), made by `rt staticlib tns`.
  *
  * Every call is answered, whatever numbers and list lengths are passed. A refused call leaves every list
  * as it was. What is asked of the caller is what C cannot check: a pointer is good for its length (and
@@ -10,7 +10,7 @@
  * rounding to nearest, no flush-to-zero, no denormals-are-zero and all exceptions masked. Audio threads
  * are often run otherwise. There tns_decode and tns_decode_restart can leave other lines,
  * tns_decode_save other lines and states, and tns_encode other lines, side data, coefficients and bits;
- * an exception that is not masked can end the process. Refusals, tns_cost and the two block calls are
+ * an exception that is not masked can end the process. Refusals, tns_cost and the three block calls are
  * whole numbers and stay the same. examples/float_environment.c guards a call in a few lines; the Rust
  * crate guards each of its calls.
  */
@@ -25,8 +25,9 @@
 extern "C" {
 #endif
 
-/* Why a call was refused: the first of these that applies, by number. 9 to 12 belong to the block calls,
- * which give no other. The numbers 13 to 15 belong to calls that are not in this header. */
+/* Why a call was refused: the first of these that applies, by number; tns_block_rescue alone asks for its
+ * number last. 9 to 12 belong to the block calls, which give no other. The numbers 13 to 15 belong to
+ * calls that are not in this header. */
 enum {
     TNS_ACCEPTED = 0,
     TNS_DURATION = 1,        /* neither 0 (10 ms) nor 1 (7.5 ms) */
@@ -37,9 +38,9 @@ enum {
     TNS_ORDER = 6,           /* an order over 8: place 0 or 1 */
     TNS_INDEX = 7,           /* an index over 16: place 0 to 15 */
     TNS_WEIGHTING = 8,       /* over 1 */
-    TNS_BLOCK_LENGTH = 9,    /* a block cut short, or one whose number is over 65535 */
+    TNS_BLOCK_LENGTH = 9,    /* a block cut short, or one that would have a number over 65535 */
     TNS_BLOCK_SUMS = 10,     /* the bytes have other sums than the block says */
-    TNS_BLOCK_LAYOUT = 11,   /* wrong header, another number than asked for, or fill that is not zero */
+    TNS_BLOCK_LAYOUT = 11,   /* wrong header, fill that is not zero, or (of a read) another number */
     TNS_BLOCK_RECORD = 12,   /* a record breaks a limit or is cut short, or its bits are not its cost */
     TNS_LINE = 16,           /* below the row's first start, or over its last stop */
     TNS_OUTPUT_LENGTH = 17   /* not the spectrum's */
@@ -149,6 +150,33 @@ tns_block_answer tns_block_write(uint64_t number, const uint8_t *records, size_t
  * written. */
 tns_block_answer tns_block_read(uint64_t number, const uint8_t *block, size_t block_len,
                                 uint8_t records[480]);
+
+typedef struct {
+    uint16_t refusal; /* 0: accepted */
+    uint16_t number;  /* of an accepted call, the number that stood in the bytes; else 0 */
+} tns_rescue_answer;
+
+/* Rescues one block of a damaged file. The bytes are checked as tns_block_read checks them, whatever
+ * number stands in them; what comes after the first 512 is not looked at. An accepted call writes all 512
+ * bytes of the block: this number, bytes 2 to 507 as they were, and fresh sums. Refusals 9 (fewer than
+ * 512 bytes, none among them), then 10 to 12 (the first fault), then 9 (nothing is wrong with the bytes,
+ * and the number is over 65535).
+ *
+ * A whole file is rescued in two passes over its blocks. What is left at its end, fewer than 512 bytes,
+ * is stray bytes and no block.
+ *
+ *     1. Call for each block with number 0 and count how many are accepted; what is written is not needed
+ *        yet. More than 65536 are too many for a file: refuse it with 9, and make no mended file.
+ *     2. Call for each block again. Its number is how many this pass has accepted before it: 0, 1, 2 and
+ *        so on. Write each accepted block to the mended file and drop each refused one. No 9 comes here
+ *        unless the file has changed since.
+ *
+ * The mended file has the kept blocks in their old order and is read without a refusal. A sound file
+ * comes out as it was. The second pass also knows what to report: of a block that is dropped, its place
+ * in the damaged file and the refusal; of one that is kept with another number than stood in it, its
+ * place and both numbers; how many bytes are stray. examples/rescue.c does all of this. */
+tns_rescue_answer tns_block_rescue(uint64_t number, const uint8_t *bytes, size_t bytes_len,
+                                   uint8_t block[512]);
 
 #ifdef __cplusplus
 }

@@ -1,4 +1,4 @@
-//! The library's seven functions as C sees them. The contracts of these functions are proved; that the
+//! The library's eight functions as C sees them. The contracts of these functions are proved; that the
 //! shapes here are theirs is for a reader to see in `crates/tns/src/`.
 
 /// What a call answers: refusal 0 says that it is accepted.
@@ -17,6 +17,14 @@ pub struct Answer {
 pub struct BlockAnswer {
     pub refusal: u16,
     pub records: u16,
+}
+
+/// What the rescue of a block answers.
+#[derive(Clone, Copy)]
+#[repr(C)]
+pub struct RescueAnswer {
+    pub refusal: u16,
+    pub number: u16,
 }
 
 extern "C" {
@@ -91,4 +99,10 @@ extern "C" {
         block_len: usize,
         records: *mut [u8; 480],
     ) -> BlockAnswer;
+    pub fn tns_block_rescue(
+        number: u64,
+        bytes: *const u8,
+        bytes_len: usize,
+        block: *mut [u8; 512],
+    ) -> RescueAnswer;
 }

@@ -23,7 +23,7 @@
 //! [`decode_save`] has saved.
 //!
 //! [`narration`] keeps the side data of many frames in a file, in blocks that tell when a byte has
-//! changed.
+//! changed, and rescues what is sound of a file that was damaged.
 //!
 //! A call may be made in any float environment, as from an audio thread with flush-to-zero and
 //! denormals-are-zero set: it works in the default one, and the thread has its own again afterwards.
@@ -32,8 +32,8 @@
 //! have its names. They answer with a `Result` where it panics. One index is decoded otherwise: 0 is
 //! the coefficient that the encoder wrote it for, where lc3-codec's decoder takes it for no coefficient.
 //!
-//! The feature `std`, which is on by default, adds the writer and the reader of whole narrations. All
-//! else is `no_std`.
+//! The feature `std`, which is on by default, adds the writer, the reader and the rescue of whole
+//! narrations. All else is `no_std`.
 #![no_std]
 #![deny(missing_docs)]
 

@@ -2,8 +2,9 @@
 //!
 //! A [`Record`] is the side data of one frame with its duration, bandwidth and bits. A file holds them in
 //! blocks of 512 bytes, up to 20 in each. `Writer` and `Reader` go through a whole file, over whatever
-//! `std::io` can write or read; they need the feature `std`, which is on by default. [`write_block`] and
-//! [`read_block`] make and check one block. Either way a file of any length takes the same little memory.
+//! `std::io` can write or read, and `rescue` makes a sound file of a damaged one; they need the feature
+//! `std`, which is on by default. [`write_block`], [`read_block`] and [`rescue_block`] make, check and
+//! rescue one block. Either way a file of any length takes the same little memory.
 //!
 //! ```
 //! use gillsextant::narration::{read_block, write_block, BlockRefusal, Record};
@@ -51,16 +52,28 @@
 //! A file has at most 65,536 blocks; one without records has no bytes. Whoever writes fills every block
 //! but the last. Whoever reads takes any count from 1 to 20 in any block. A block that is refused gives
 //! none of its records, and those of the blocks before it stand.
+//!
+//! # Rescue
+//!
+//! Where a file is damaged, the records behind the first refused block need not be lost. A rescue goes
+//! through all whole blocks of it and keeps each one whose sums, header, fill and records are right,
+//! whatever number stands in it. The kept blocks stand in their old order, numbered from 0, with fresh
+//! sums; their records stay byte for byte. More than 65,536 blocks to keep are refused by 9, before
+//! anything is written.
 
 mod block;
 #[cfg(feature = "std")]
 mod file;
 mod record;
+#[cfg(feature = "std")]
+mod rescue;
 
-pub use block::{read_block, write_block, BlockRefusal};
+pub use block::{read_block, rescue_block, write_block, BlockRefusal};
 #[cfg(feature = "std")]
 pub use file::{Error, Reader, Writer};
 pub use record::Record;
+#[cfg(feature = "std")]
+pub use rescue::{rescue, rescue_with, RescueEntry, RescueError};
 
 /// The bytes of a record.
 pub const RECORD_SIZE: usize = 24;

@@ -1,11 +1,11 @@
-//! The only calls of the library's seven functions. All seven are called in the default float
+//! The only calls of the library's eight functions. All eight are called in the default float
 //! environment (`float`), so that nobody has to know which of them compute with floats. All but the
 //! encoder's and those on blocks are inlined: handing nine arguments on would take longer than a
 //! decoder's call without a filter, and those that save and restart have more.
 
 use crate::exports::{
-    tns_block_read, tns_block_write, tns_cost, tns_decode, tns_decode_restart, tns_decode_save,
-    tns_encode, Answer, BlockAnswer,
+    tns_block_read, tns_block_rescue, tns_block_write, tns_cost, tns_decode, tns_decode_restart,
+    tns_decode_save, tns_encode, Answer, BlockAnswer, RescueAnswer,
 };
 use crate::narration::BlockRefusal;
 use crate::{float, Encoded, Refusal, SideData};
@@ -32,6 +32,15 @@ impl BlockAnswer {
     fn accepted(self) -> Result<usize, BlockRefusal> {
         match self.refusal {
             0 => Ok(self.records.into()),
+            number => Err(BlockRefusal::of(number)),
+        }
+    }
+}
+
+impl RescueAnswer {
+    fn accepted(self) -> Result<u16, BlockRefusal> {
+        match self.refusal {
+            0 => Ok(self.number),
             number => Err(BlockRefusal::of(number)),
         }
     }
@@ -207,6 +216,14 @@ pub fn block_read(
     // Sound as above.
     let answer = float::in_default(move || unsafe {
         tns_block_read(number, block.as_ptr(), block.len(), records)
+    });
+    answer.accepted()
+}
+
+pub fn block_rescue(number: u64, bytes: &[u8], block: &mut [u8; 512]) -> Result<u16, BlockRefusal> {
+    // Sound as above.
+    let answer = float::in_default(move || unsafe {
+        tns_block_rescue(number, bytes.as_ptr(), bytes.len(), block)
     });
     answer.accepted()
 }

@@ -1,23 +1,23 @@
-//! Blocks of a narration, one at a time, against the model of C-11 in `common/narrations.rs`. Every call
-//! is made by the export as C makes it and by the crate, and of every byte that is lent it is known whether
-//! the call wrote it.
+//! Blocks of a narration, one at a time, against the model of C-11 and C-16 in `common/narrations.rs`. Every
+//! call is made by the export as C makes it and by the crate, and of every byte that is lent it is known
+//! whether the call wrote it.
 
 mod common;
 
 use common::narrations::{
-    block, record, records, records_from, sealed, sound, sums, verdict, with_bits, with_sums,
-    Block, Bytes, BITS, INDICES, ORDERS,
+    block, record, records, records_from, renumbered, rescue_verdict, sealed, sound, sums, verdict,
+    with_bits, with_sums, Block, Bytes, BITS, INDICES, ORDERS,
 };
 use common::{List, Record as Listed};
-use gillsextant::narration::{read_block, write_block, BlockRefusal};
+use gillsextant::narration::{read_block, rescue_block, write_block, BlockRefusal};
 
 /// The exports as the crate declares them.
-#[allow(dead_code)] // two of them are called here
+#[allow(dead_code)] // three of them are called here
 #[path = "../src/exports.rs"]
 mod exports;
 
-/// What a call answers, records or refusal, and every byte that it leaves in what is lent to it: `None`
-/// where it writes nothing.
+/// What a call answers, its number or its refusal, and every byte that it leaves in what is lent to it:
+/// `None` where it writes nothing.
 type Left = (Result<u16, u16>, Vec<Option<u8>>);
 
 /// A call that writes to N bytes in the middle of others. It is made twice, with other bytes there: one
@@ -81,6 +81,25 @@ fn read(number: u64, block: &[u8]) -> Left {
     by_export
 }
 
+fn rescue(number: u64, bytes: &[u8]) -> Left {
+    let lent = bytes.to_vec();
+    // Sound as above.
+    let by_export = left(|block| {
+        let answer = unsafe { exports::tns_block_rescue(number, lent.as_ptr(), lent.len(), block) };
+        match answer.refusal {
+            0 => Ok(answer.number),
+            number => {
+                assert_eq!(answer.number, 0);
+                Err(number)
+            }
+        }
+    });
+    assert_eq!(lent, bytes);
+    let by_crate = left(|block| rescue_block(number, bytes, block).map_err(BlockRefusal::number));
+    assert_eq!(by_export, by_crate);
+    by_export
+}
+
 /// The call writes the model's block, all of it; it takes so many records.
 fn assert_written(number: u64, bytes: &[u8], taken: &[Bytes]) {
     let wanted = block(number, taken).map(Some).to_vec();
@@ -102,15 +121,29 @@ fn assert_not_read(number: u64, bytes: &[u8], refusal: u16) {
     assert_eq!(read(number, bytes), (Err(refusal), vec![None; 480]));
 }
 
-/// One record, sound or not, is taken and given, or refused by 12 both ways.
+/// The call answers what stood in the bytes and writes this block, all of it.
+fn assert_rescued(number: u64, bytes: &[u8], stood: u16, wanted: Block) {
+    assert_eq!(
+        rescue(number, bytes),
+        (Ok(stood), wanted.map(Some).to_vec())
+    );
+}
+
+fn assert_not_rescued(number: u64, bytes: &[u8], refusal: u16) {
+    assert_eq!(rescue(number, bytes), (Err(refusal), vec![None; 512]));
+}
+
+/// One record, sound or not, is taken, given and kept, or refused by 12 all three ways.
 fn assert_sound(record: &Bytes, wanted: bool) {
     let one = block(7, &[*record]);
     if wanted {
         assert_written(7, record, &[*record]);
         assert_read(7, &one, &[*record]);
+        assert_rescued(300, &one, 7, block(300, &[*record]));
     } else {
         assert_not_written(7, record, 12);
         assert_not_read(7, &one, 12);
+        assert_not_rescued(300, &one, 12);
     }
 }
 
@@ -476,6 +509,20 @@ const FAULTS: [Fault; 11] = [
     (9, |_| {}), // the last byte is missing
 ];
 
+/// The block 0x0101 with these faults.
+fn faulty(faults: &[Fault]) -> Vec<u8> {
+    let numbers = |number| faults.iter().filter(move |fault| fault.0 == number);
+    let mut bytes = block(0x0101, &records(7));
+    for (_, make) in numbers(12).chain(numbers(11)) {
+        make(&mut bytes);
+    }
+    bytes = sealed(bytes);
+    for (_, make) in numbers(10) {
+        make(&mut bytes);
+    }
+    bytes[..512 - numbers(9).count()].to_vec()
+}
+
 /// Every set of faults in one block is refused by the lowest: each fault alone, each pair, and all. And
 /// with a number past the last, by 9.
 #[test]
@@ -484,19 +531,10 @@ fn the_lowest_refusal() {
     for set in 1u32..1 << FAULTS.len() {
         let has = |place: &usize| set >> place & 1 == 1;
         let faults: Vec<Fault> = (0..FAULTS.len()).filter(has).map(|n| FAULTS[n]).collect();
-        let numbers = |number| faults.iter().filter(move |fault| fault.0 == number);
-        let mut bytes = block(0x0101, &records(7));
-        for (_, make) in numbers(12).chain(numbers(11)) {
-            make(&mut bytes);
-        }
-        bytes = sealed(bytes);
-        for (_, make) in numbers(10) {
-            make(&mut bytes);
-        }
-        let length = 512 - numbers(9).count();
+        let bytes = faulty(&faults);
         let lowest = faults.iter().map(|fault| fault.0).min().unwrap();
-        assert_not_read(0x0101, &bytes[..length], lowest);
-        assert_not_read(0x10101, &bytes[..length], 9);
+        assert_not_read(0x0101, &bytes, lowest);
+        assert_not_read(0x10101, &bytes, 9);
         pairs += usize::from(faults.len() == 2);
     }
     assert_eq!(pairs, 55);
@@ -510,8 +548,156 @@ fn the_lowest_refusal() {
     assert_not_written(65536, &records(1)[0][..23], 9);
 }
 
+/// Whatever number stands in a block and whatever number it gets, it is kept, and answers what stood in it.
+/// All else of it stays but the sums, which are fresh.
+#[test]
+fn every_count_is_rescued() {
+    for (number, stood) in NUMBERS
+        .iter()
+        .flat_map(|n| NUMBERS.map(|stood| (*n, stood)))
+    {
+        for count in 1..=20 {
+            let list = records_from(number as usize, count);
+            let bytes = block(stood, &list);
+            assert_rescued(number, &bytes, stood as u16, block(number, &list));
+        }
+    }
+}
+
+/// The same for all numbers: the second sum passes 65521 again and again as they grow.
+#[test]
+fn every_number_is_rescued() {
+    let list = records(20);
+    let (first, last) = (block(0, &list), block(65535, &list));
+    let mut found = [0; 512];
+    for number in 0..=65535 {
+        let numbered = renumbered(first, number);
+        assert_eq!(rescue_block(number.into(), &last, &mut found), Ok(65535));
+        assert_eq!(found, numbered);
+        assert_eq!(rescue_block(0, &numbered, &mut found), Ok(number));
+        assert_eq!(found, first);
+    }
+}
+
+/// Fewer than 512 bytes are no block, none among them, whatever the number. More than 512 are one, and
+/// nobody looks behind it.
+#[test]
+fn slices_that_are_rescued() {
+    let list = records(19);
+    let mut bytes = block(3, &list).to_vec();
+    for number in [0, 3, 65535, 65536, u64::MAX] {
+        for length in 0..512 {
+            assert_not_rescued(number, &bytes[..length], 9);
+        }
+    }
+    for more in [0, 1, 511, 512, 1000] {
+        bytes.resize(512 + more, 255);
+        assert_rescued(2, &bytes, 3, block(2, &list));
+    }
+    bytes[0] ^= 1;
+    assert_not_rescued(2, &bytes, 10);
+}
+
+/// A hole of zeros has right sums: they are 0. So have any equal bytes that are sealed.
+#[test]
+fn holes_are_not_rescued() {
+    assert_eq!(sums(&[0; 512]), [0, 0]);
+    assert_not_rescued(0, &[0; 512], 11);
+    for value in 1..=255 {
+        assert_not_rescued(0, &sealed([value; 512]), 11);
+        assert_not_rescued(0, &[value; 512], 10);
+    }
+}
+
+/// Every other value of every byte of a block, those of its number among them, the sums as they were.
+#[test]
+fn no_changed_byte_is_rescued() {
+    let mut untouched = [0xa5; 512];
+    for (number, count) in [(0, 1), (259, 7), (65535, 20)] {
+        let right = block(number, &records(count));
+        for place in 0..512 {
+            let mut changed = right;
+            for difference in 1..=255 {
+                changed[place] = right[place] ^ difference;
+                let answer = rescue_block(number, &changed, &mut untouched);
+                assert_eq!(answer, Err(BlockRefusal::Sums), "place {place}");
+            }
+        }
+    }
+    assert_eq!(untouched, [0xa5; 512]);
+}
+
+/// Every other value of every byte of the header, with right sums. A wrong number is no fault, and a count
+/// that makes records of zeros is none either. Then every byte of the fill.
+#[test]
+fn headers_and_fills_that_are_rescued() {
+    let list = records(7);
+    let right = block(0x0203, &list);
+    for place in 0..8 {
+        for value in (0..=255).filter(|value| *value != right[place]) {
+            let mut changed = right;
+            changed[place] = value;
+            let changed = sealed(changed);
+            let stood = u16::from(changed[0]) + 256 * u16::from(changed[1]);
+            if place < 2 {
+                assert_rescued(9, &changed, stood, block(9, &list));
+            } else if place == 2 && (8..=20).contains(&value) {
+                let mut more = list.clone();
+                more.resize(value.into(), [0; 24]);
+                assert_rescued(9, &changed, stood, block(9, &more));
+            } else {
+                assert_not_rescued(9, &changed, 11);
+            }
+        }
+    }
+    for place in 8 + 24 * 7..508 {
+        for value in [1, 8, 128, 255] {
+            let mut changed = right;
+            changed[place] = value;
+            assert_not_rescued(9, &sealed(changed), 11);
+        }
+    }
+}
+
+/// Every set of faults in one block is refused by the lowest, as it is when the block is read, but that a
+/// wrong number is none. A number past the last is told of a sound block alone: with a fault besides, the
+/// fault stands. But fewer than 512 bytes come first.
+#[test]
+fn the_first_fault() {
+    let mut met = [0; 4];
+    for set in 0u32..1 << FAULTS.len() {
+        let has = |place: &usize| set >> place & 1 == 1;
+        let faults: Vec<Fault> = (0..FAULTS.len()).filter(has).map(|n| FAULTS[n]).collect();
+        let bytes = faulty(&faults);
+        let stood = u16::from(bytes[0]) + 256 * u16::from(bytes[1]);
+        let is_number = |place: usize| (2..=3).contains(&place);
+        let others = (0..FAULTS.len()).filter(|place| has(place) && !is_number(*place));
+        match others.map(|place| FAULTS[place].0).min() {
+            Some(lowest) => {
+                met[lowest as usize - 9] += 1;
+                for number in [0, 0x0101, 65535, 65536, 0x10101, u64::MAX] {
+                    assert_not_rescued(number, &bytes, lowest);
+                }
+            }
+            None => {
+                let wanted = block(0x0101, &records(7));
+                assert_rescued(0x0101, &bytes, stood, wanted);
+                assert_rescued(65535, &bytes, stood, renumbered(wanted, 65535));
+                for number in NUMBERS {
+                    for past in [1 << 16, 2 << 16, 1 << 32, 1 << 63, u64::MAX - 65535] {
+                        assert_not_rescued(number + past, &bytes, 9);
+                    }
+                }
+            }
+        }
+    }
+    // The sets of the nine other faults, each with all four of the number's two.
+    assert_eq!(met, [256, 192, 60, 3].map(|sets| 4 * sets));
+}
+
 /// Damage of every kind, drawn at random and the same in every run: some bytes changed, near their values
-/// or far, with the sums made right again or not, asked for by its number or another, whole or cut.
+/// or far, with the sums made right again or not, asked for by its number or another, whole or cut. Then
+/// the same bytes are rescued.
 #[test]
 fn random_damage() {
     let mut state = 0x9e37_79b9_7f4a_7c15_u64;
@@ -521,7 +707,7 @@ fn random_damage() {
         state ^= state << 17;
         (state >> 11) % bound
     };
-    let mut met = [0; 5];
+    let [mut met, mut met_by_rescue] = [[0; 5]; 2];
     for round in 0..6000 {
         let number = NUMBERS[below(6) as usize];
         let list = records_from(below(1000) as usize, 1 + below(20) as usize);
@@ -552,8 +738,22 @@ fn random_damage() {
                 assert_not_read(number, bytes, refusal);
             }
         }
+        let past = [0, 0, 0, 65536, 1 << 32][below(5) as usize];
+        let number = past + NUMBERS[below(6) as usize];
+        match rescue_verdict(number, bytes) {
+            Ok((stood, block)) => {
+                met_by_rescue[0] += 1;
+                assert_rescued(number, bytes, stood, block);
+            }
+            Err(refusal) => {
+                met_by_rescue[refusal as usize - 8] += 1;
+                assert_not_rescued(number, bytes, refusal);
+            }
+        }
     }
-    assert!(met.iter().all(|count| *count > 200), "{met:?}");
+    for met in [met, met_by_rescue] {
+        assert!(met.iter().all(|count| *count > 200), "{met:?}");
+    }
 }
 
 /// The model's own records are what they are meant to be, and many.

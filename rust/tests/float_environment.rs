@@ -7,7 +7,7 @@
 
 use gillsextant::decoder::temporal_noise_shaping::apply_temporal_noise_shaping;
 use gillsextant::encoder::temporal_noise_shaping::TemporalNoiseShaping;
-use gillsextant::narration::{read_block, write_block, BlockRefusal};
+use gillsextant::narration::{read_block, rescue_block, write_block, BlockRefusal};
 use gillsextant::{
     cost, decode, decode_restart, decode_save, encode, Bandwidth, Duration, Refusal, Saved,
 };
@@ -345,6 +345,13 @@ fn read_unguarded(word: u32, block: &[u8], records: &mut [u8; 480]) -> [u16; 2] 
     block_numbers(answer)
 }
 
+fn rescue_unguarded(word: u32, bytes: &[u8], block: &mut [u8; 512]) -> [u16; 2] {
+    let (answer, _) = within(word, || unsafe {
+        unguarded::tns_block_rescue(7, bytes.as_ptr(), bytes.len(), block)
+    });
+    [answer.refusal, answer.number]
+}
+
 fn falling(loudest: f32) -> Vec<f32> {
     (0..LINES as i32)
         .map(|n| loudest * 0.95f32.powi(n))
@@ -513,12 +520,14 @@ fn refusals_and_cost_are_the_same_unguarded() {
     }
 }
 
-/// Blocks by the crate and, as include/tns.h says of C, without the guard: what is written and read, what
-/// is refused, and the environment afterwards.
+/// Blocks by the crate and, as include/tns.h says of C, without the guard: what is written, read and
+/// rescued, what is refused, and the environment afterwards.
 #[test]
 fn blocks_are_the_same() {
     let (record, wanted) = narrated();
     let cut = &wanted[..511];
+    let mut elsewhere = [0; 512];
+    assert_eq!(write_block(65535, &record, &mut elsewhere), Ok(1));
     for word in environments() {
         let (mut block, mut records) = ([0; 512], [0; 480]);
         let answer = within(word, || write_block(7, &record, &mut block));
@@ -529,6 +538,11 @@ fn blocks_are_the_same() {
         assert_eq!(refused, (Err(BlockRefusal::Length), word));
         let refused = within(word, || write_block(7, &record[1..], &mut block));
         assert_eq!(refused, (Err(BlockRefusal::Record), word));
+        let mut block = [0; 512];
+        let answer = within(word, || rescue_block(7, &elsewhere, &mut block));
+        assert_eq!((answer, block), ((Ok(65535), word), wanted));
+        let refused = within(word, || rescue_block(7, cut, &mut block));
+        assert_eq!(refused, (Err(BlockRefusal::Length), word));
 
         let (mut block, mut records) = ([0; 512], [0; 480]);
         assert_eq!(write_unguarded(word, &record, &mut block), [0, 1]);
@@ -537,6 +551,10 @@ fn blocks_are_the_same() {
         assert_eq!(records[..24], record);
         assert_eq!(write_unguarded(word, &record[1..], &mut block), [12, 0]);
         assert_eq!(read_unguarded(word, cut, &mut records), [9, 0]);
+        let mut block = [0; 512];
+        assert_eq!(rescue_unguarded(word, &elsewhere, &mut block), [0, 65535]);
+        assert_eq!(block, wanted);
+        assert_eq!(rescue_unguarded(word, cut, &mut block), [9, 0]);
     }
 }
 

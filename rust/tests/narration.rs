@@ -6,6 +6,7 @@
 mod common;
 
 use common::narrations::{block, file, record, records, sealed, Block, Bytes, BITS};
+use common::streams::Pieces;
 use common::{List, Record as Listed, BANDWIDTHS, DURATIONS};
 use gillsextant::narration::{BlockRefusal, Error, Reader, Record, Writer};
 use gillsextant::{Bandwidth, Duration, Refusal, SideData};
@@ -501,65 +502,6 @@ fn the_longest_file_ends() {
         let ended = Reader::new(bytes).try_for_each(|record| record.map(|_| found += 1));
         let wanted = if stray == 0 { Ok(()) } else { Err((65536, 9)) };
         assert_eq!((found, ended.map_err(refused)), (65536 * 20, wanted));
-    }
-}
-
-/// Bytes that come in pieces of a length, are interrupted before each piece, or fail from a place on.
-#[derive(Clone)]
-struct Pieces {
-    bytes: Vec<u8>,
-    at: usize,
-    length: usize,
-    interrupts: bool,
-    interrupted: bool,
-    fails_at: usize,
-}
-
-impl Pieces {
-    fn of(bytes: &[u8], length: usize) -> Self {
-        Pieces {
-            bytes: bytes.to_vec(),
-            at: 0,
-            length,
-            interrupts: false,
-            interrupted: false,
-            fails_at: usize::MAX,
-        }
-    }
-
-    /// How many bytes may go through now.
-    fn allowed(&mut self, asked: usize) -> io::Result<usize> {
-        self.interrupted = self.interrupts && !self.interrupted;
-        if self.interrupted {
-            return Err(ErrorKind::Interrupted.into());
-        }
-        let left = self.fails_at - self.at;
-        if left == 0 && asked > 0 {
-            return Err(io::Error::new(ErrorKind::PermissionDenied, "no more"));
-        }
-        Ok(asked.min(self.length).min(left))
-    }
-}
-
-impl Read for Pieces {
-    fn read(&mut self, buffer: &mut [u8]) -> io::Result<usize> {
-        let length = self.allowed(buffer.len())?;
-        let length = length.min(self.bytes.len() - self.at);
-        buffer[..length].copy_from_slice(&self.bytes[self.at..][..length]);
-        self.at += length;
-        Ok(length)
-    }
-}
-
-impl Write for Pieces {
-    fn write(&mut self, bytes: &[u8]) -> io::Result<usize> {
-        let length = self.allowed(bytes.len())?;
-        self.bytes.extend(&bytes[..length]);
-        self.at += length;
-        Ok(length)
-    }
-    fn flush(&mut self) -> io::Result<()> {
-        Ok(())
     }
 }
 

@@ -1,17 +1,19 @@
-//! One block of a narration, made and checked by the library.
+//! One block of a narration, made, checked and rescued by the library.
 
 use super::{BLOCK_SIZE, RECORDS_SIZE};
 use crate::sys;
 use core::fmt;
 
-/// Why a block was refused. Where several reasons hold, the one with the lowest number is given.
+/// Why a block was refused. Where several reasons hold, the one with the lowest number is given;
+/// [`rescue_block`] alone asks for its number last.
 #[derive(Clone, Copy, Debug, PartialEq, Eq, Hash)]
 pub enum BlockRefusal {
     /// 9: the block is cut short, or its number is over 65,535.
     Length,
     /// 10: the bytes have other sums than the block says.
     Sums,
-    /// 11: the header is wrong, the number is another, or the fill is not zero.
+    /// 11: the header is wrong, the number is another, or the fill is not zero. A rescue takes any number
+    /// that stands in a block.
     Layout,
     /// 12: a record breaks a limit or is cut short, or its bits are not its cost.
     Record,
@@ -110,4 +112,49 @@ pub fn read_block(
     records: &mut [u8; RECORDS_SIZE],
 ) -> Result<usize, BlockRefusal> {
     sys::block_read(number, block, records)
+}
+
+/// Rescues a block of a damaged narration: checks the first 512 bytes as [`read_block`] does, whatever
+/// number stands in them, and writes them as the block of this number. Bytes 2 to 507 stay as they were,
+/// and the sums are fresh. Gives the number that stood in the bytes.
+///
+/// Refused by [`BlockRefusal::Length`] if there are fewer than 512 bytes, none among them; then by the
+/// other three in their order; and last by [`BlockRefusal::Length`] if nothing is wrong with the bytes and
+/// the number is over 65,535. A refused call leaves the block as it was.
+///
+/// Of a damaged narration that is all in memory, the blocks that can be kept are found so. If whole blocks
+/// are refused by [`BlockRefusal::Length`], there are more than a narration can have.
+///
+/// ```
+/// use gillsextant::narration::{rescue_block, write_block, BlockRefusal, Record, BLOCK_SIZE};
+///
+/// # let mut damaged = [[0; BLOCK_SIZE]; 4];
+/// # for (number, block) in damaged.iter_mut().enumerate() {
+/// #     write_block(number as u64, &Record::default().to_bytes(), block)?;
+/// # }
+/// # let mut damaged = damaged.concat();
+/// // four blocks, a byte of the second changed, and the end of the last one gone
+/// damaged[600] += 1;
+/// damaged.truncate(4 * BLOCK_SIZE - 1);
+///
+/// let (mut mended, mut block) = (Vec::new(), [0; BLOCK_SIZE]);
+/// let answers: Vec<_> = damaged
+///     .chunks(BLOCK_SIZE)
+///     .map(|bytes| {
+///         let number = mended.len() / BLOCK_SIZE;
+///         let stood = rescue_block(number as u64, bytes, &mut block)?;
+///         mended.extend(block);
+///         Ok(stood)
+///     })
+///     .collect();
+/// assert_eq!(answers, [Ok(0), Err(BlockRefusal::Sums), Ok(2), Err(BlockRefusal::Length)]);
+/// assert_eq!((mended.len(), mended[512]), (2 * BLOCK_SIZE, 1));
+/// # Ok::<(), BlockRefusal>(())
+/// ```
+pub fn rescue_block(
+    number: u64,
+    bytes: &[u8],
+    block: &mut [u8; BLOCK_SIZE],
+) -> Result<u16, BlockRefusal> {
+    sys::block_rescue(number, bytes, block)
 }

@@ -250,8 +250,8 @@ impl<R: Read> Iterator for Reader<R> {
 
 impl<R: Read> FusedIterator for Reader<R> {}
 
-/// Fills a buffer as far as there are bytes; how far that is.
-fn read_up_to(inner: &mut impl Read, buffer: &mut [u8]) -> io::Result<usize> {
+/// Fills a buffer as far as there are bytes; how far that is. A read that is interrupted is tried again.
+pub(super) fn read_up_to(inner: &mut impl Read, buffer: &mut [u8]) -> io::Result<usize> {
     let mut filled = 0;
     while filled < buffer.len() {
         let rest = &mut buffer[filled..];

@@ -1,10 +1,11 @@
 //! What the test files share: the lists of `crates/replay/data` (their form stands in
-//! `oracle/README.md`), read record by record, ways to compare lines, frames to restart, and a model of
-//! narration files.
+//! `oracle/README.md`), read record by record, ways to compare lines, frames to restart, a model of
+//! narration files, and streams that come in pieces or fail.
 #![allow(dead_code)] // each test file uses a part of it
 
 pub mod frames;
 pub mod narrations;
+pub mod streams;
 
 use gillsextant::{Bandwidth, Duration, Refusal};
 

@@ -1,6 +1,7 @@
-//! A plain model of narration files, written from request C-11: records whose bits stand in the
-//! documents, the bytes of a block, the bytes of a file, and what a reader must say of a block. Of the
-//! library it asks one thing, the cost of records whose bits stand in no document.
+//! A plain model of narration files, written from requests C-11 and C-16: records whose bits stand in the
+//! documents, the bytes of a block, the bytes of a file, what a reader must say of a block, and what a
+//! rescue must make of a block and of a file. Of the library it asks one thing, the cost of records whose
+//! bits stand in no document.
 
 use gillsextant::cost;
 
@@ -137,4 +138,52 @@ pub fn verdict(number: u64, bytes: &[u8]) -> Result<Vec<Bytes>, u16> {
         return Err(12);
     }
     Ok(records)
+}
+
+/// The number that stands in a block.
+pub fn number_in(block: &Block) -> u16 {
+    u16::from(block[0]) + 256 * u16::from(block[1])
+}
+
+/// A block with another number, and the sums that it must have then.
+pub fn renumbered(mut block: Block, number: u16) -> Block {
+    block[0] = (number % 256) as u8;
+    block[1] = (number / 256) as u8;
+    sealed(block)
+}
+
+/// What rescuing bytes as a block gives: the number that stood in it and the block that it becomes, or the
+/// number that it is refused by. A block is kept if it is sound under the number that stands in it.
+pub fn rescue_verdict(number: u64, bytes: &[u8]) -> Result<(u16, Block), u16> {
+    let block = bytes.first_chunk::<512>().ok_or(9u16)?;
+    let stood = number_in(block);
+    verdict(stood.into(), block)?;
+    match u16::try_from(number) {
+        Ok(number) => Ok((stood, renumbered(*block, number))),
+        Err(_) => Err(9),
+    }
+}
+
+/// What the rescue of a file gives: the mended file and the lines of the report, or nothing if there are
+/// too many blocks to keep.
+pub fn rescued(file: &[u8]) -> Option<(Vec<u8>, Vec<String>)> {
+    let (blocks, stray) = file.split_at(file.len() / 512 * 512);
+    let (mut mended, mut report) = (Vec::new(), Vec::new());
+    for (place, block) in blocks.chunks(512).enumerate() {
+        let new = mended.len() / 512;
+        match rescue_verdict(0, block) {
+            Err(fault) => report.push(format!("block {place} dropped {fault}")),
+            Ok(_) if new == 65536 => return None,
+            Ok((old, block)) => {
+                mended.extend(renumbered(block, new as u16));
+                if usize::from(old) != new {
+                    report.push(format!("block {place} renumbered {old} to {new}"));
+                }
+            }
+        }
+    }
+    if !stray.is_empty() {
+        report.push(format!("{} stray bytes", stray.len()));
+    }
+    Some((mended, report))
 }
