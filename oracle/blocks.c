@@ -1,9 +1,11 @@
-/* Calls the port's two functions on blocks (document 02, C-11) for damage.py, one call for each
+/* Calls the port's three functions on blocks (document 02, C-11 and C-16) for port.py, one call for each
  * request on standard input, and writes an answer for each to standard output:
  *
- *   request  a byte, r to read or w to write; the number, 8 bytes; a length, 4 bytes; so many bytes
- *   answer   refusal and records, 2 bytes each; a byte that is 0 if nothing was written but what is lent;
- *            the lent buffer as it is afterwards, of 480 bytes after r and of 512 after w
+ *   request  a byte, r to read, w to write or m to rescue; the number, 8 bytes; a length, 4 bytes; so many
+ *            bytes
+ *   answer   the refusal, and how many records or after m the old number, 2 bytes each; a byte that is 0 if
+ *            nothing was written but what is lent; the lent buffer as it is afterwards, of 480 bytes after r
+ *            and of 512 else
  *
  * Numbers have their low byte first. Before a call byte i of what is lent is 7i + 165, modulo 256. Input
  * ends where the memory that can be read ends, so that a call that reads on is ended by a signal.
@@ -40,7 +42,7 @@ int main(void) {
     for (int word; (word = getchar()) != EOF;) {
         uint64_t number;
         uint32_t length;
-        tns_block_answer answer;
+        uint16_t refusal, told;
         size_t size = word == 'r' ? 480 : 512;
         take(&number, sizeof number);
         take(&length, sizeof length);
@@ -50,15 +52,19 @@ int main(void) {
         memcpy(input, request, length);
         memset(lent, BEYOND, sizeof lent);
         for (size_t i = 0; i < size; i++) lent[GUARDS + i] = (uint8_t)(7 * i + 165);
-        if (word == 'r')
-            answer = tns_block_read(number, input, length, lent + GUARDS);
-        else
-            answer = tns_block_write(number, input, length, lent + GUARDS);
+        if (word == 'm') {
+            tns_rescue_answer answer = tns_block_rescue(number, input, length, lent + GUARDS);
+            refusal = answer.refusal, told = answer.number;
+        } else {
+            tns_block_answer answer = word == 'r' ? tns_block_read(number, input, length, lent + GUARDS)
+                                                  : tns_block_write(number, input, length, lent + GUARDS);
+            refusal = answer.refusal, told = answer.records;
+        }
         uint8_t wrote = memcmp(input, request, length) != 0;
         for (size_t i = 0; i < GUARDS; i++)
             wrote |= lent[i] != BEYOND || lent[GUARDS + size + i] != BEYOND;
-        fwrite(&answer.refusal, 2, 1, stdout);
-        fwrite(&answer.records, 2, 1, stdout);
+        fwrite(&refusal, 2, 1, stdout);
+        fwrite(&told, 2, 1, stdout);
         fwrite(&wrote, 1, 1, stdout);
         fwrite(lent + GUARDS, 1, size, stdout);
     }

@@ -1,6 +1,7 @@
-"""A model of block files, to be read beside document 02, C-11: records, sums, blocks
-and files, one function for each rule. It is written from the documents and shares
-nothing with the port. The cost of a record is document 01's (model.py).
+"""A model of block files, to be read beside document 02, C-11 and C-16: records, sums,
+blocks and files, and what is kept of damaged ones, one function for each rule. It is
+written from the documents and shares nothing with the port. The cost of a record is
+document 01's (model.py).
 
 Where a block is refused, the model also says which of the refusal's reasons is met
 first, so that a comparison can count them.
@@ -87,17 +88,33 @@ class Format:
             return 9, "short", b""
         if number >= MOST_BLOCKS:
             return 9, "number", b""
-        found = u16(block[508:510]), u16(block[510:])
-        wanted = sums(block)
-        if found != wanted:
-            differ = [name for name, f, w in zip(("plain", "weighted"), found, wanted) if f != w]
-            return 10, " and ".join(differ), b""
-        fault = layout_fault(number, block)
+        refusal, reason = self.fault_in(block, number)
+        return refusal, reason, b"" if refusal else records_of(block)
+
+    def fault_in(self, block, number=None):
+        """The first fault of a whole block, with its reason. Where no number is asked for,
+        any will do: that is what rescue looks for."""
+        fault = sums_fault(block)
         if fault:
-            return 11, fault, b""
-        records = block[FIRST : FIRST + RECORD * block[2]]
-        fault = self.fault_among(records)
-        return (12, fault, b"") if fault else (0, None, records)
+            return 10, fault
+        fault = layout_fault(block, number)
+        if fault:
+            return 11, fault
+        fault = self.fault_among(records_of(block))
+        return (12, fault) if fault else (0, None)
+
+    def rescue_block(self, number, block):
+        """The block at the start of some bytes as the kept one of this number, and the number
+        that it had."""
+        block = block[:BLOCK]
+        if len(block) < BLOCK:
+            return 9, "short", b"", 0
+        refusal, reason = self.fault_in(block)
+        if refusal:
+            return refusal, reason, b"", 0
+        if number >= MOST_BLOCKS:
+            return 9, "number", b"", 0
+        return 0, None, renumbered(block, number), number_of(block)
 
     # Files: what stands, and the first refusal with its block.
 
@@ -115,6 +132,28 @@ class Format:
                 return b"".join(stands), (refusal, number)
             stands.append(made)
         return b"".join(stands), None
+
+    def rescue_file(self, file):
+        """What is kept of a damaged file, and the report's entries; None where there is more
+        to keep than may be."""
+        whole = len(file) // BLOCK
+        faults = [self.fault_in(block)[0] for block in parts(file[: BLOCK * whole], BLOCK)]
+        if faults.count(0) > MOST_BLOCKS:
+            return None
+        kept, report = [], []
+        for place, fault in enumerate(faults):
+            block = file[BLOCK * place : BLOCK * (place + 1)]
+            if fault:
+                report.append(("dropped", place, fault))
+                continue
+            old, new = number_of(block), len(kept)
+            if old != new:
+                report.append(("renumbered", place, old, new))
+            kept.append(renumbered(block, new))
+        stray = len(file) - BLOCK * whole
+        if stray:
+            report.append(("stray", stray))
+        return b"".join(kept), report
 
 
 def parts(bytes_, size):
@@ -143,14 +182,46 @@ def sealed(number, records):
     return with_sums((header + records).ljust(SUMMED, b"\0"))
 
 
-def layout_fault(number, block):
-    """What is wrong with a block's header, number or fill, or None."""
+def number_of(block):
+    return u16(block[:2])
+
+
+def records_of(block):
+    """The records of a block whose count is right."""
+    return block[FIRST : FIRST + RECORD * block[2]]
+
+
+def renumbered(block, number):
+    """A block under another number, with fresh sums; the rest of it stays."""
+    return with_sums(bytes_of(number) + block[2:])
+
+
+def sums_fault(block):
+    """Which of a block's sums are wrong, or None."""
+    found = u16(block[508:510]), u16(block[510:])
+    differ = [name for name, f, w in zip(("plain", "weighted"), found, sums(block)) if f != w]
+    return " and ".join(differ) or None
+
+
+def layout_fault(block, number=None):
+    """What is wrong with a block's header, its number if one is asked for, or its fill, or
+    None."""
     if not 1 <= block[2] <= CAPACITY:
         return "count"
     if block[3] != EDITION:
         return "edition"
     if any(block[4:8]):
         return "zeros"
-    if u16(block[:2]) != number:
+    if number is not None and number_of(block) != number:
         return "number"
     return "fill" if any(block[FIRST + RECORD * block[2] : SUMMED]) else None
+
+
+def report_line(entry):
+    """An entry of the report, as the program writes it."""
+    kind, *numbers = entry
+    if kind == "dropped":
+        return "block %d dropped %d\n" % tuple(numbers)
+    if kind == "renumbered":
+        return "block %d renumbered %d to %d\n" % tuple(numbers)
+    return "%d stray bytes\n" % tuple(numbers)

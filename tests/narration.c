@@ -1,5 +1,6 @@
-/* Makes and damages the block files of document 02, C-11, for tests/narrations and bench/narrations. It is
- * a plain model, written from the documents, and shares nothing with the library.
+/* Makes, damages and rescues the block files of document 02, C-11 and C-16, for tests/narrations,
+ * tests/rescue and bench/narrations. It is a plain model, written from the documents, and shares nothing with
+ * the library.
  *
  *   narration records N [SEED]     writes N sound records, of every kind
  *   narration heavy N [SEED]       writes N sound records, most with two filters of orders 5 to 8
@@ -9,9 +10,13 @@
  *   narration change SIZE CHANGE.. reads bytes in units of SIZE and writes them changed: U.P=V sets byte P
  *                                  of unit U to V, U.P+V adds V to it, and U.sums makes the two sums of a
  *                                  block right; changes are made in turn
+ *   narration rescue MENDED        reads a damaged block file, writes what is kept of it to the file MENDED,
+ *                                  and the report to standard output; of more than 65,536 blocks to keep it
+ *                                  writes nothing, and its status is 9
  *
  * Status 0, or 1 where it cannot write, or 2 if it is called wrongly. Numbers come from xorshift (13, 7,
- * 17), so the same call writes the same bytes. Assumes C99; `change` holds at most 4 MiB.
+ * 17), so the same call writes the same bytes. Assumes C99; `change` holds at most 4 MiB, and `rescue` all
+ * that it reads.
  */
 #include <stdint.h>
 #include <stdio.h>
@@ -20,7 +25,7 @@
 
 #include "costs.h"
 
-enum { RECORD = 24, BLOCK = 512, SUMMED = 508, MOST = 20, LARGEST = 4 << 20 };
+enum { RECORD = 24, BLOCK = 512, SUMMED = 508, MOST = 20, LARGEST = 4 << 20, BLOCKS = 65536 };
 
 static void wrong(void) {
     fprintf(stderr, "narration: called wrongly\n");
@@ -81,13 +86,18 @@ static void put_records(long count, unsigned long seed, int is_heavy) {
     }
 }
 
-static void put_record(char **numbers, int count) {
+/* The most that the number at a place of a record may be. */
+static int limit(int place) {
     static const int most[] = {1, 4, 2, 1, 8, 8};
+    return place < 6 ? most[place] : 16;
+}
+
+static void put_record(char **numbers, int count) {
     uint8_t r[RECORD];
     if (count != 22) wrong();
     for (int k = 0; k < count; k++) {
         long number = whole(numbers[k]);
-        if (number > (k < 6 ? most[k] : 16)) wrong();
+        if (number > limit(k)) wrong();
         r[k] = (uint8_t)number;
     }
     put_u16(r + 22, cost(r));
@@ -142,6 +152,72 @@ static void put_changed(long size, char **changes, int count) {
     put(bytes, length);
 }
 
+static int is_sound(const uint8_t *record) {
+    uint8_t bits[2];
+    for (int k = 0; k < 22; k++)
+        if (record[k] > limit(k)) return 0;
+    put_u16(bits, cost(record));
+    return !memcmp(bits, record + 22, 2);
+}
+
+/* The first fault of a whole block, its number apart: 10, 11 or 12, or 0 if it has none. */
+static int fault_of(const uint8_t *block) {
+    uint8_t right[BLOCK];
+    int count = block[2];
+    memcpy(right, block, BLOCK);
+    put_sums(right);
+    if (memcmp(right, block, BLOCK)) return 10;
+    if (count < 1 || count > MOST || block[3] != 1) return 11;
+    for (int place = 4; place < 8; place++)
+        if (block[place] != 0) return 11;
+    for (int place = 8 + RECORD * count; place < SUMMED; place++)
+        if (block[place] != 0) return 11;
+    for (int k = 0; k < count; k++)
+        if (!is_sound(block + 8 + RECORD * k)) return 12;
+    return 0;
+}
+
+/* All of standard input. */
+static uint8_t *taken(size_t *length) {
+    size_t room = LARGEST, held = 0, got;
+    uint8_t *bytes = malloc(room);
+    while (bytes != NULL && (got = fread(bytes + held, 1, room - held, stdin)) > 0) {
+        held += got;
+        if (held == room) bytes = realloc(bytes, room *= 2);
+    }
+    if (bytes == NULL) exit(1);
+    *length = held;
+    return bytes;
+}
+
+static void rescue(const char *mended) {
+    size_t length, kept = 0;
+    uint8_t *bytes = taken(&length);
+    size_t blocks = length / BLOCK;
+    for (size_t place = 0; place < blocks; place++) kept += fault_of(bytes + BLOCK * place) == 0;
+    if (kept > BLOCKS) exit(9);
+    FILE *out = fopen(mended, "wb");
+    if (out == NULL) exit(1);
+    kept = 0;
+    for (size_t place = 0; place < blocks; place++) {
+        uint8_t *block = bytes + BLOCK * place;
+        int fault = fault_of(block);
+        if (fault != 0) {
+            printf("block %zu dropped %d\n", place, fault);
+            continue;
+        }
+        size_t old = block[0] + 256u * block[1];
+        if (old != kept) printf("block %zu renumbered %zu to %zu\n", place, old, kept);
+        put_u16(block, (uint32_t)kept);
+        put_sums(block);
+        if (fwrite(block, 1, BLOCK, out) != BLOCK) exit(1);
+        kept++;
+    }
+    if (length % BLOCK > 0) printf("%zu stray bytes\n", length % BLOCK);
+    if (fclose(out) != 0) exit(1);
+    free(bytes);
+}
+
 int main(int count, char **given) {
     const char *word = count > 1 ? given[1] : "";
     if (!strcmp(word, "records") || !strcmp(word, "heavy")) {
@@ -155,6 +231,8 @@ int main(int count, char **given) {
         long size = whole(given[2]);
         if (size == 0) wrong();
         put_changed(size, given + 3, count - 3);
+    } else if (!strcmp(word, "rescue") && count == 3) {
+        rescue(given[2]);
     } else {
         wrong();
     }
