@@ -15,9 +15,10 @@ DOCS = Path(__file__).resolve().parent
 PICTURE = DOCS / "architecture.svg"
 BOTTOM = ["tns_refusals", "tns_lists", "tns_rounding"]
 ACROSS = {
-    "tns_program": 0, "tns_wording": 0, "tns_bits": 0, "tns_words": 0.1, "tns_records": 0.97, "tns_blocks": 1.05,
-    "tns_block_calls": 1.9, "tns_narrations": 0.9, "tns_block_runs": 1.4, "tns_transfer": 1.0, "tns_read": 0.6, "tns_write": 1.6,
-    "tns_tables": 1.35, "tns_charges": 1.35, "tns_cost": 1.35, "tns_side": 1.98, "tns_index": 2.5,
+    "tns_program": 0.5, "tns_wording": 0.09, "tns_bits": 0.04, "tns_words": 0.49, "tns_records": 1.4, "tns_blocks": 1.76,
+    "tns_block_calls": 0.69, "tns_narrations": 2.18, "tns_block_runs": 1.73, "tns_transfer": 0.17, "tns_read": 0, "tns_write": 1.02,
+    "tns_block_rescue": 0.71, "tns_rescues": 2.42, "tns_rescue_wording": 2.05, "tns_rescue_pieces": 2.05, "tns_rescue": 2.05,
+    "tns_tables": 1.49, "tns_charges": 1.64, "tns_cost": 1.78, "tns_side": 2.41, "tns_index": 2.5,
     "tns_decode": 4.1, "tns_calls": 2.95, "tns_mending": 2.9, "tns_frames": 3.55, "tns_rows": 4.6, "tns_exact": 5.2,
     "tns_filters": 4.55, "tns_lattices": 6.0, "tns_decoder_lattice": 5.55, "tns_encoder_lattice": 6.55, "tns_encode": 6.3, "tns_round_trip": 3.3, "tns": 4.4, "replay": 4.4,
     "tns_lags": 8.55, "tns_recursion": 7.05, "tns_analysis": 7.3, "tns_examples": 7.3, "tns_reflections": 8.03,
@@ -28,6 +29,8 @@ SAYS = {
     "tns_words": "numbers, two sums", "tns_records": "a record of 24 bytes", "tns_blocks": "what is right of a block",
     "tns_block_calls": "read, write a block", "tns_narrations": "a file of blocks", "tns_block_runs": "what blocks become", "tns_transfer": "input to output",
     "tns_read": "the program", "tns_write": "the program",
+    "tns_block_rescue": "a damaged block", "tns_rescues": "a damaged file", "tns_rescue_wording": "lines of the report",
+    "tns_rescue_pieces": "what blocks become", "tns_rescue": "the program",
     "tns_tables": "table T", "tns_charges": "what indices cost", "tns_cost": "bits, 20-byte records", "tns_side": "side data",
     "tns_index": "index, coefficient", "tns_exact": "demand 3", "tns_rows": "durations, bands", "tns_frames": "checks 1 to 3", "tns_calls": "checks 16, 17", "tns_mending": "save, then restart",
     "tns_lattices": "lines through either", "tns_decoder_lattice": "one band", "tns_encoder_lattice": "one band", "tns_filters": "the bands of a row", "tns_decode": "decode, save, restart",
@@ -35,7 +38,7 @@ SAYS = {
     "tns_encode": "the encode call", "tns_round_trip": "encode, then decode", "tns": "what C and Rust link", "tns_examples": "worked cases", "replay": "the lists",
 }
 WIDTH, HEIGHT, STEP, LEFT, TOP = 124, 38, 130, 16, 16
-ROWS = 10
+ROWS = 12
 
 
 def crates():
@@ -88,7 +91,7 @@ def svg():
         x, y = place[name]
         dash = ' stroke-dasharray="4 3"' if no_code(name) else ""
         out.append(f'<rect x="{x:.0f}" y="{y}" width="{WIDTH}" height="{HEIGHT}" rx="5" fill="#f2f6fb" stroke="#345"{dash}/>')
-        out.append(f'<text x="{x + WIDTH / 2:.0f}" y="{y + 16}" text-anchor="middle" font-size="{13 if len(name) < 18 else 12}">{name}</text>')
+        out.append(f'<text x="{x + WIDTH / 2:.0f}" y="{y + 16}" text-anchor="middle" font-size="{13 if len(name) < 17 else 12}">{name}</text>')
         out.append(f'<text x="{x + WIDTH / 2:.0f}" y="{y + 31}" text-anchor="middle" font-size="10" fill="#555">{SAYS[name]}</text>')
     return "\n".join(out + ["</svg>", ""])
 
