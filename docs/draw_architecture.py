@@ -13,29 +13,29 @@ from pathlib import Path
 
 DOCS = Path(__file__).resolve().parent
 PICTURE = DOCS / "architecture.svg"
-BOTTOM = ["tns_refusals", "tns_lists", "tns_rounding"]
+BOTTOM = ["check_refusals", "law_lists", "law_rounding"]
 ACROSS = {
-    "tns_program": 0.5, "tns_wording": 0.09, "tns_bits": 0.04, "tns_words": 0.49, "tns_records": 1.4, "tns_blocks": 1.76,
-    "tns_block_calls": 0.69, "tns_narrations": 2.18, "tns_block_runs": 1.73, "tns_transfer": 0.17, "tns_read": 0, "tns_write": 1.02,
-    "tns_block_rescue": 0.71, "tns_rescues": 2.42, "tns_rescue_wording": 2.05, "tns_rescue_pieces": 2.05, "tns_rescue": 2.05,
-    "tns_tables": 1.49, "tns_charges": 1.64, "tns_cost": 1.78, "tns_side": 2.41, "tns_index": 2.5,
-    "tns_decode": 4.1, "tns_calls": 2.95, "tns_mending": 2.9, "tns_frames": 3.55, "tns_rows": 4.6, "tns_exact": 5.2,
-    "tns_filters": 4.55, "tns_lattices": 6.0, "tns_decoder_lattice": 5.55, "tns_encoder_lattice": 6.55, "tns_encode": 6.3, "tns_round_trip": 3.3, "tns": 4.4, "replay": 4.4,
-    "tns_lags": 8.55, "tns_recursion": 7.05, "tns_analysis": 7.3, "tns_examples": 7.3, "tns_reflections": 8.03,
+    "io_streams": 0.5, "text_answers": 0.09, "prog_bits": 0.04, "block_numbers": 0.49, "block_record": 1.4, "block_check": 1.76,
+    "block_write": 0.69, "file_narration": 2.18, "io_blocks": 1.73, "io_transfer": 0.17, "prog_read": 0, "prog_write": 1.02,
+    "tns_block_rescue": 0.71, "file_rescued": 2.42, "text_report": 2.05, "io_rescue": 2.05, "prog_rescue": 2.05,
+    "cost_tables": 1.49, "cost_charges": 1.64, "tns_cost": 1.78, "side_data": 2.41, "index_choice": 2.5,
+    "tns_decode": 4.1, "check_line": 2.95, "call_mending": 2.9, "check_frame": 3.55, "row_bands": 4.6, "lattice_exact": 5.2,
+    "lattice_rows": 4.55, "lattice_lines": 6.0, "lattice_decoder": 5.55, "lattice_encoder": 6.55, "tns_encode": 6.3, "call_round_trip": 3.3, "tns": 4.4, "replay": 4.4,
+    "shape_lags": 8.55, "shape_recursion": 7.05, "shape_frame": 7.3, "examples": 7.3, "shape_reflections": 8.03,
 }
 SAYS = {
-    "tns_refusals": "verdicts, 1, 2, 4 to 7", "tns_lists": "lists, lines in place", "tns_rounding": "f32 operations",
-    "tns_program": "reading, writing, text", "tns_wording": "lines of text", "tns_bits": "the bits program",
-    "tns_words": "numbers, two sums", "tns_records": "a record of 24 bytes", "tns_blocks": "what is right of a block",
-    "tns_block_calls": "read, write a block", "tns_narrations": "a file of blocks", "tns_block_runs": "what blocks become", "tns_transfer": "input to output",
-    "tns_read": "the program", "tns_write": "the program",
-    "tns_block_rescue": "a damaged block", "tns_rescues": "a damaged file", "tns_rescue_wording": "lines of the report",
-    "tns_rescue_pieces": "what blocks become", "tns_rescue": "the program",
-    "tns_tables": "table T", "tns_charges": "what indices cost", "tns_cost": "bits, 20-byte records", "tns_side": "side data",
-    "tns_index": "index, coefficient", "tns_exact": "demand 3", "tns_rows": "durations, bands", "tns_frames": "checks 1 to 3", "tns_calls": "checks 16, 17", "tns_mending": "save, then restart",
-    "tns_lattices": "lines through either", "tns_decoder_lattice": "one band", "tns_encoder_lattice": "one band", "tns_filters": "the bands of a row", "tns_decode": "decode, save, restart",
-    "tns_lags": "autocorrelation", "tns_recursion": "predictor, gain", "tns_reflections": "step-down", "tns_analysis": "a filter, a frame",
-    "tns_encode": "the encode call", "tns_round_trip": "encode, then decode", "tns": "what C and Rust link", "tns_examples": "worked cases", "replay": "the lists",
+    "check_refusals": "verdicts, 1, 2, 4 to 7", "law_lists": "lists, lines in place", "law_rounding": "f32 operations",
+    "io_streams": "reading, writing, text", "text_answers": "lines of text", "prog_bits": "the bits program",
+    "block_numbers": "numbers, two sums", "block_record": "a record of 24 bytes", "block_check": "what is right of a block",
+    "block_write": "read, write a block", "file_narration": "a file of blocks", "io_blocks": "what blocks become", "io_transfer": "input to output",
+    "prog_read": "the program", "prog_write": "the program",
+    "tns_block_rescue": "a damaged block", "file_rescued": "a damaged file", "text_report": "lines of the report",
+    "io_rescue": "what blocks become", "prog_rescue": "the program",
+    "cost_tables": "table T", "cost_charges": "what indices cost", "tns_cost": "bits, 20-byte records", "side_data": "side data",
+    "index_choice": "index, coefficient", "lattice_exact": "demand 3", "row_bands": "durations, bands", "check_frame": "checks 1 to 3", "check_line": "checks 16, 17", "call_mending": "save, then restart",
+    "lattice_lines": "lines through either", "lattice_decoder": "one band", "lattice_encoder": "one band", "lattice_rows": "the bands of a row", "tns_decode": "decode, save, restart",
+    "shape_lags": "autocorrelation", "shape_recursion": "predictor, gain", "shape_reflections": "step-down", "shape_frame": "a filter, a frame",
+    "tns_encode": "the encode call", "call_round_trip": "encode, then decode", "tns": "what C and Rust link", "examples": "worked cases", "replay": "the lists",
 }
 WIDTH, HEIGHT, STEP, LEFT, TOP = 124, 38, 130, 16, 16
 ROWS = 12
@@ -70,7 +70,7 @@ def svg():
             place[name] = (LEFT + (2 + 2 * BOTTOM.index(name)) * STEP, TOP + (ROWS - 1) * 70)
         else:
             # A program's own room is drawn beside those that programs are made of.
-            up = {"tns_program": 3}.get(name, depth(name, lists))
+            up = {"io_streams": 3}.get(name, depth(name, lists))
             place[name] = (LEFT + ACROSS[name] * STEP, TOP + (ROWS - 1 - up) * 70)
     out = [
         f'<svg xmlns="http://www.w3.org/2000/svg" width="1268" height="{ROWS * 70 + 2}" font-family="sans-serif">',

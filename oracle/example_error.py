@@ -6,9 +6,9 @@ the harness, and rounds each f32 operation by itself.
     oracle/example_error.py          works the example that the checker works
     oracle/example_error.py FILE     works the harness's cases again and compares
 
-The example is one call of the list crates/replay/data/encode, where the Rust's
+The example is one call of the list crates/prog_replay/data/encode, where the Rust's
 side data and filtered lines stand beside the entering lines. Its numbers must be
-those of crates/tns_examples/specs/Worked.antt.
+those of crates/examples/specs/Worked.antt.
 
 Assumes finite lines that stay finite, coefficients that are whole numbers of
 2^-26, and Python 3 with its standard library.
@@ -22,7 +22,7 @@ import lists
 
 ROOT = pathlib.Path(__file__).resolve().parent.parent
 LIST = lists.FOLDER / "encode"
-WORKED = ROOT / "crates/tns_examples/specs/Worked.antt"
+WORKED = ROOT / "crates/examples/specs/Worked.antt"
 
 # The call: its duration, bandwidth and bits, its bands, and the lines that are
 # shown of each: at the seam, and at the end.

@@ -9,7 +9,7 @@ import dataclasses
 import pathlib
 import struct
 
-FOLDER = pathlib.Path(__file__).resolve().parent.parent / "crates/replay/data"
+FOLDER = pathlib.Path(__file__).resolve().parent.parent / "crates/prog_replay/data"
 
 INDEX, COST, DECODE, ENCODE, SAVE, RESTART = range(6)
 CALLS = ["index", "cost", "decode", "encode", "save", "restart"]

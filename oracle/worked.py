@@ -4,7 +4,7 @@ refusal, refusals that meet, silence, frames saved and mended (C-22), and docume
 01's table of marked cases. The answers are the model's (model.py).
 
     oracle/worked.py [--src DIR] --print           a line for each case and its answer
-    oracle/worked.py [--src DIR] --write [FILE]    writes the list crates/replay/data/worked
+    oracle/worked.py [--src DIR] --write [FILE]    writes the list crates/prog_replay/data/worked
     oracle/worked.py [--src DIR] --check           compares that list with the model
 
 With a FILE the list is written there instead. It fails if a case differs, if a marked

@@ -1,4 +1,4 @@
-//! The library across the boundary: the lists of `crates/replay/data`, refusals, buffers that a refused
+//! The library across the boundary: the lists of `crates/prog_replay/data`, refusals, buffers that a refused
 //! call leaves alone, empty slices, threads.
 
 mod common;

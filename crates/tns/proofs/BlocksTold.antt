@@ -2,10 +2,10 @@
 use mathlib.Core.Path.{_≡_, sym, _∙_, ap, subst}
 use mathlib.Core.List.{List}
 use Prim.Native.Nat.{ℕ, _≤_}
-use Rattle.tns_refusals.specs.Refusals.{Verdict, onAccepted}
-use Rattle.tns_blocks.specs.Told.{blockSays, countSaid}
-use Rattle.tns_blocks.specs.declared.check.BlockAnswer.{BlockAnswer}
-use Rattle.tns_block_calls.specs.BlockCalls.{BlockDone}
+use Rattle.check_refusals.specs.Refusals.{Verdict, onAccepted}
+use Rattle.block_check.specs.Told.{blockSays, countSaid}
+use Rattle.block_check.specs.declared.check.BlockAnswer.{BlockAnswer}
+use Rattle.block_write.specs.BlockCalls.{BlockDone}
 use Rattle.tns.specs.Blocks.{blockFor, TnsBlock}
 use Rattle.tns.specs.declared.blocks.BlockTold.{BlockTold}
 

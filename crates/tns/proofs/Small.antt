@@ -6,21 +6,21 @@ use native.Mathlib.Omega.{arith}
 use lib.Dec.{ltb, eqb}
 use lib.Ieee.{Float}
 use lib.ListN.{length, getD}
-use Rattle.tns_refusals.specs.Refusals.{numbered, placed, Verdict, accepted, refused, noFault, check, says, placeOf, ofFault, noBits, itsBits}
-use Rattle.tns_refusals.specs.declared.Refusal.{Refusal}
-use Rattle.tns_refusals.proofs.Eight.{of-eight}
-use Rattle.tns_refusals.proofs.Checks.{check-by, sides-by}
-use Rattle.tns_cost.specs.Cost.{costOf}
-use Rattle.tns_cost.proofs.Costs.{cost-by, counted-at-most}
-use Rattle.tns_rows.specs.Durations.{durationOf}
-use Rattle.tns_rows.specs.Bands.{rowOf, lastStop}
-use Rattle.tns_frames.proofs.Frames.{frames-by}
-use Rattle.tns_calls.specs.Calls.{lineChecks, lineCallChecks, lineSays}
-use Rattle.tns_calls.specs.declared.LineRefusal.{LineRefusal}
-use Rattle.tns_calls.specs.declared.LineRefusal.the-variants.{Call, Line, OutputLength}
-use Rattle.tns_decode.specs.Decoder.{decodeChecks}
-use Rattle.tns_encode.specs.Encoder.{encodeVerdict, bitsVerdict, weightingIn}
-use Rattle.tns_encode.proofs.Reported.{reported-bits-at-most}
+use Rattle.check_refusals.specs.Refusals.{numbered, placed, Verdict, accepted, refused, noFault, check, says, placeOf, ofFault, noBits, itsBits}
+use Rattle.check_refusals.specs.declared.Refusal.{Refusal}
+use Rattle.check_refusals.proofs.Eight.{of-eight}
+use Rattle.check_refusals.proofs.Checks.{check-by, sides-by}
+use Rattle.cost_call.specs.Cost.{costOf}
+use Rattle.cost_call.proofs.Costs.{cost-by, counted-at-most}
+use Rattle.row_bands.specs.Durations.{durationOf}
+use Rattle.row_bands.specs.Bands.{rowOf, lastStop}
+use Rattle.check_frame.proofs.Frames.{frames-by}
+use Rattle.check_line.specs.Calls.{lineChecks, lineCallChecks, lineSays}
+use Rattle.check_line.specs.declared.LineRefusal.{LineRefusal}
+use Rattle.check_line.specs.declared.LineRefusal.the-variants.{Call, Line, OutputLength}
+use Rattle.call_decode.specs.Decoder.{decodeChecks}
+use Rattle.call_encode.specs.Encoder.{encodeVerdict, bitsVerdict, weightingIn}
+use Rattle.call_encode.proofs.Reported.{reported-bits-at-most}
 use Rattle.tns.specs.Answers.{answerFor}
 use Rattle.tns.specs.declared.Answer.{Answer}
 

@@ -3,11 +3,11 @@ use mathlib.Core.Path.{_≡_, refl, sym, ap}
 use mathlib.Core.List.{List}
 use Prim.Native.Nat.{ℕ}
 use lib.Ieee.{Float}
-use Rattle.tns_refusals.specs.Refusals.{Fault, Verdict, accepted, refused, unlessRefused}
-use Rattle.tns_refusals.proofs.Sides.{not-accepted}
-use Rattle.tns_encode.specs.Encoder.{bitsVerdict, sideIn}
-use Rattle.tns_side.specs.Side.{recordOf, coefficientsIn}
-use Rattle.tns_side.specs.declared.SideData.{SideData}
+use Rattle.check_refusals.specs.Refusals.{Fault, Verdict, accepted, refused, unlessRefused}
+use Rattle.check_refusals.proofs.Sides.{not-accepted}
+use Rattle.call_encode.specs.Encoder.{bitsVerdict, sideIn}
+use Rattle.side_data.specs.Side.{recordOf, coefficientsIn}
+use Rattle.side_data.specs.declared.SideData.{SideData}
 
 pub refused-writes : (v : Verdict SideData) (why : Fault) → refused why ≡ bitsVerdict v → (bytes : List ℕ) (coefficients : List Float)
     → (bytes ≡ unlessRefused v recordOf bytes) × (coefficients ≡ unlessRefused v coefficientsIn coefficients)

@@ -4,8 +4,8 @@ use mathlib.Core.List.{List, _++_}
 use Prim.Native.Nat.{ℕ}
 use lib.Ieee.{Float}
 use lib.ListN.{take}
-use Rattle.tns_refusals.specs.Refusals.{Verdict, unlessRefused, noBits}
-use Rattle.tns_decode.specs.Restart.{Lent}
+use Rattle.check_refusals.specs.Refusals.{Verdict, unlessRefused, noBits}
+use Rattle.call_decode.specs.Restart.{Lent}
 use Rattle.tns.specs.Answers.{answerFor}
 use Rattle.tns.specs.declared.Answer.{Answer}
 

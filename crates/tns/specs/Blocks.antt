@@ -2,9 +2,9 @@
 use mathlib.Core.Path.{_≡_}
 use mathlib.Core.List.{List}
 use Prim.Native.Nat.{ℕ}
-use Rattle.tns_refusals.specs.Refusals.{Verdict, numberOf, ofFault, unlessRefused, onAccepted}
-use Rattle.tns_blocks.specs.Told.{countSaid}
-use Rattle.tns_block_calls.specs.BlockCalls.{laidOver}
+use Rattle.check_refusals.specs.Refusals.{Verdict, numberOf, ofFault, unlessRefused, onAccepted}
+use Rattle.block_check.specs.Told.{countSaid}
+use Rattle.block_write.specs.BlockCalls.{laidOver}
 use Rattle.tns.specs.declared.blocks.BlockTold.{BlockTold}
 
 -- the number of a refusal, 0 where there is none, and how many records

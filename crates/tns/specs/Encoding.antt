@@ -3,12 +3,12 @@ use mathlib.Core.Path.{_≡_}
 use mathlib.Core.List.{List}
 use Prim.Native.Nat.{ℕ, _≤_}
 use lib.Ieee.{Float}
-use Rattle.tns_refusals.specs.Refusals.{Verdict, unlessRefused, IfAccepted, itsBits}
-use Rattle.tns_rows.specs.declared.row.Row.{Row}
-use Rattle.tns_side.specs.Side.{recordOf, coefficientsIn}
-use Rattle.tns_side.specs.declared.SideData.{SideData}
-use Rattle.tns_exact.specs.Exact.{NearExact}
-use Rattle.tns_encode.specs.Encoder.{bitsVerdict, sideIn, linesAfter}
+use Rattle.check_refusals.specs.Refusals.{Verdict, unlessRefused, IfAccepted, itsBits}
+use Rattle.row_bands.specs.declared.row.Row.{Row}
+use Rattle.side_data.specs.Side.{recordOf, coefficientsIn}
+use Rattle.side_data.specs.declared.SideData.{SideData}
+use Rattle.lattice_exact.specs.Exact.{NearExact}
+use Rattle.call_encode.specs.Encoder.{bitsVerdict, sideIn, linesAfter}
 use Rattle.tns.specs.Answers.{answerFor}
 use Rattle.tns.specs.declared.Answer.{Answer}
 

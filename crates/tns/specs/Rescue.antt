@@ -2,9 +2,9 @@
 use mathlib.Core.Path.{_≡_}
 use mathlib.Core.List.{List}
 use Prim.Native.Nat.{ℕ}
-use Rattle.tns_refusals.specs.Refusals.{Verdict, numberOf, ofFault, unlessRefused, onAccepted}
-use Rattle.tns_blocks.specs.Blocks.{numberIn}
-use Rattle.tns_block_rescue.specs.Rescue.{rescueVerdict}
+use Rattle.check_refusals.specs.Refusals.{Verdict, numberOf, ofFault, unlessRefused, onAccepted}
+use Rattle.block_check.specs.Blocks.{numberIn}
+use Rattle.block_rescue.specs.Rescue.{rescueVerdict}
 use Rattle.tns.specs.declared.rescue.RescueTold.{RescueTold}
 
 -- the number of a refusal, 0 where there is none, and the number that stood in a block that is kept, 0 where none is

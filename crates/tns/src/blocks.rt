@@ -1,11 +1,11 @@
 // The calls on a block of a narration, as C and Rust call them.
-use tns_block_calls::read_block;
-use tns_block_calls::write_block;
-use tns_blocks::BlockAnswer;
+use block_check::BlockAnswer;
+use block_write::read_block;
+use block_write::write_block;
 ghost use mathlib.Core.Path.{_≡_};
 ghost use Prim.Native.Nat.{_≤_};
-ghost use Rattle.tns_blocks.specs.Blocks.{countOf, countIn, readVerdict, writeVerdict};
-ghost use Rattle.tns_blocks.specs.Told.{blockSays, countSaid};
+ghost use Rattle.block_check.specs.Blocks.{countOf, countIn, readVerdict, writeVerdict};
+ghost use Rattle.block_check.specs.Told.{blockSays, countSaid};
 ghost use Rattle.tns.specs.Blocks.{blockFor, TnsBlock};
 
 // What a call on a block answers. Refusal 0 says that it is accepted, and any other is request C-11's
@@ -32,7 +32,7 @@ fn block_told(answer: BlockAnswer) -> BlockTold
     }
 }
 
-// Writes up to twenty records as block `number`, as `tns_block_calls::write_block`. A refused call writes
+// Writes up to twenty records as block `number`, as `block_write::write_block`. A refused call writes
 // nothing.
 #[no_mangle]
 pub extern "C" fn tns_block_write(number: u64, records: &[u8], block: &mut [u8; 512]) -> BlockTold
@@ -42,7 +42,7 @@ pub extern "C" fn tns_block_write(number: u64, records: &[u8], block: &mut [u8; 
     block_told(answer)
 }
 
-// Checks block `number` and writes its records, as `tns_block_calls::read_block`. A refused call writes
+// Checks block `number` and writes its records, as `block_write::read_block`. A refused call writes
 // nothing.
 #[no_mangle]
 pub extern "C" fn tns_block_read(number: u64, block: &[u8], records: &mut [u8; 480]) -> BlockTold

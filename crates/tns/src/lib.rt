@@ -7,32 +7,32 @@ mod rescue;
 pub use blocks::BlockTold;
 pub use blocks::tns_block_read;
 pub use blocks::tns_block_write;
+use call_decode::DecodeAnswer;
+use call_decode::LineAnswer;
+use call_decode::decode;
+use call_decode::restart;
+use call_decode::save;
+use call_encode::EncodeAnswer;
+use call_encode::encode;
+use check_line::LineRefusal;
+use check_refusals::Refusal;
+use cost_call::CostAnswer;
+use cost_call::cost;
 pub use rescue::RescueTold;
 pub use rescue::tns_block_rescue;
-use tns_calls::LineRefusal;
-use tns_cost::CostAnswer;
-use tns_cost::cost;
-use tns_decode::DecodeAnswer;
-use tns_decode::LineAnswer;
-use tns_decode::decode;
-use tns_decode::restart;
-use tns_decode::save;
-use tns_encode::EncodeAnswer;
-use tns_encode::encode;
-use tns_refusals::Refusal;
-use tns_side::coefficients_of;
-use tns_side::record_of;
+use side_data::coefficients_of;
+use side_data::record_of;
 ghost use mathlib.Core.Path.{_≡_};
 ghost use Prim.Native.Nat.{_≤_};
 ghost use lib.ListN.{length};
-ghost use Rattle.tns_refusals.specs.Refusals.{placed, accepted, refused, placeOf, ofFault, noBits, itsBits, says};
-ghost use Rattle.tns_cost.specs.Cost.{costOf};
-ghost use Rattle.tns_calls.specs.Calls.{lineCallChecks, lineSays};
-ghost use Rattle.tns_decode.specs.Decoder.{decodeChecks, spectrumDecoded};
-ghost use Rattle.tns_decode.specs.Restart.{statesBefore, linesFrom, lineAnswerSays, lentAtLine};
-ghost use Rattle.tns_rows.specs.Durations.{durationOf};
-ghost use Rattle.tns_rows.specs.Bands.{rowOf};
-ghost use Rattle.tns_encode.specs.Encoder.{encodeVerdict};
+ghost use Rattle.check_refusals.specs.Refusals.{placed, accepted, refused, placeOf, ofFault, noBits, itsBits, says};
+ghost use Rattle.cost_call.specs.Cost.{costOf};
+ghost use Rattle.check_line.specs.Calls.{lineCallChecks, lineSays};
+ghost use Rattle.call_decode.specs.Decoder.{decodeChecks, spectrumDecoded};
+ghost use Rattle.call_decode.specs.Restart.{statesBefore, linesFrom, lineAnswerSays, lentAtLine};
+ghost use Rattle.row_bands.specs.Durations.{durationOf};
+ghost use Rattle.row_bands.specs.Bands.{rowOf};
+ghost use Rattle.call_encode.specs.Encoder.{encodeVerdict};
 ghost use Rattle.tns.specs.Answers.{answerFor};
 ghost use Rattle.tns.specs.Encoding.{lent, TnsEncodes};
 ghost use Rattle.tns.specs.AtLine.{TnsSaves, TnsRestarts};
@@ -100,7 +100,7 @@ fn told_at_line(answer: LineAnswer) -> Answer
     }
 }
 
-// Decodes a spectrum in place, as `tns_decode::decode`. A refused call leaves every line as it was.
+// Decodes a spectrum in place, as `call_decode::decode`. A refused call leaves every line as it was.
 #[no_mangle]
 pub extern "C" fn tns_decode(
     duration: u8,
@@ -120,7 +120,7 @@ pub extern "C" fn tns_decode(
     }
 }
 
-// Decodes a spectrum into an output of the same length, as `tns_decode::save`, and writes the eight
+// Decodes a spectrum into an output of the same length, as `call_decode::save`, and writes the eight
 // states as they are before line n. A refused call writes neither.
 #[no_mangle]
 pub extern "C" fn tns_decode_save(
@@ -150,7 +150,7 @@ pub extern "C" fn tns_decode_save(
     told_at_line(answer)
 }
 
-// Writes the output of a spectrum from line n on, as `tns_decode::restart`, going on from any eight
+// Writes the output of a spectrum from line n on, as `call_decode::restart`, going on from any eight
 // states. Nothing is written below n, and nothing by a refused call.
 #[no_mangle]
 pub extern "C" fn tns_decode_restart(
@@ -180,7 +180,7 @@ pub extern "C" fn tns_decode_restart(
     told_at_line(answer)
 }
 
-// Encodes a spectrum in place, as `tns_encode::encode`. An accepted call writes its side data as the
+// Encodes a spectrum in place, as `call_encode::encode`. An accepted call writes its side data as the
 // 20 bytes of the bits program, and its coefficients; a refused one leaves all three lists as they
 // were. `flag` is the near-Nyquist flag.
 #[no_mangle]
@@ -208,7 +208,7 @@ pub extern "C" fn tns_encode(
     }
 }
 
-// The cost of a frame's side data in bits, as `tns_cost::cost`.
+// The cost of a frame's side data in bits, as `cost_call::cost`.
 #[no_mangle]
 pub extern "C" fn tns_cost(weighting: u8, filters: u8, orders: &[u8], indices: &[u8]) -> Answer
     ensures answer { λ r. ⌜ r ≡ answerFor itsBits (costOf weighting filters (now (orders .entry)) (now (indices .entry))) ⌝ }

@@ -1,9 +1,9 @@
 // The rescue of a block of a damaged narration, as C and Rust call it.
-use tns_block_rescue::RescueAnswer;
-use tns_block_rescue::rescue_block;
+use block_rescue::RescueAnswer;
+use block_rescue::rescue_block;
 ghost use mathlib.Core.Path.{_≡_};
 ghost use lib.ListN.{take};
-ghost use Rattle.tns_block_rescue.specs.Rescue.{rescueSays};
+ghost use Rattle.block_rescue.specs.Rescue.{rescueSays};
 ghost use Rattle.tns.specs.Rescue.{rescueFor, TnsRescues};
 
 // What a call that rescues a block answers. Refusal 0 says that it is accepted, and any other is request
@@ -26,7 +26,7 @@ fn rescue_told(answer: RescueAnswer) -> RescueTold
     }
 }
 
-// Rescues a block as the one of this number, as `tns_block_rescue::rescue_block`. A refused call writes
+// Rescues a block as the one of this number, as `block_rescue::rescue_block`. A refused call writes
 // nothing.
 #[no_mangle]
 pub extern "C" fn tns_block_rescue(number: u64, bytes: &[u8], block: &mut [u8; 512]) -> RescueTold

@@ -1,4 +1,4 @@
-//! What the test files share: the lists of `crates/replay/data` (their form stands in
+//! What the test files share: the lists of `crates/prog_replay/data` (their form stands in
 //! `oracle/README.md`), read record by record, ways to compare lines, frames to restart, a model of
 //! narration files, and streams that come in pieces or fail.
 #![allow(dead_code)] // each test file uses a part of it
@@ -24,7 +24,7 @@ pub struct List(Vec<u8>, usize);
 impl List {
     pub fn of(name: &str) -> Self {
         let path = format!(
-            "{}/../crates/replay/data/{name}",
+            "{}/../crates/prog_replay/data/{name}",
             env!("CARGO_MANIFEST_DIR")
         );
         List(

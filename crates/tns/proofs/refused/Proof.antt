@@ -2,8 +2,8 @@
 use mathlib.Core.Path.{_≡_, _∙_}
 use Prim.Native.Nat.{ℕ}
 use borrow.Author.Needs.{needs}
-use Rattle.tns_refusals.specs.Refusals.{placed, refused, numberOf, placeOf, foundOf, noBits, says}
-use Rattle.tns_refusals.specs.declared.Refusal.{Refusal}
+use Rattle.check_refusals.specs.Refusals.{placed, refused, numberOf, placeOf, foundOf, noBits, says}
+use Rattle.check_refusals.specs.declared.Refusal.{Refusal}
 use Rattle.tns.specs.Answers.{answerFor}
 use Rattle.tns.proofs.refused.Statement.{statement}
 use Rattle.tns.proofs.refused.Tie as tie

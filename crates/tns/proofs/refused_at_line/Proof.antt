@@ -2,9 +2,9 @@
 use mathlib.Core.Path.{sym, _∙_, ap, subst}
 use Prim.Native.Nat.{_≤_}
 use borrow.Author.Needs.{needs}
-use Rattle.tns_refusals.specs.Refusals.{refused, placeOf, noBits}
-use Rattle.tns_calls.specs.Calls.{lineSays}
-use Rattle.tns_calls.specs.declared.LineRefusal.{LineRefusal}
+use Rattle.check_refusals.specs.Refusals.{refused, placeOf, noBits}
+use Rattle.check_line.specs.Calls.{lineSays}
+use Rattle.check_line.specs.declared.LineRefusal.{LineRefusal}
 use Rattle.tns.specs.Answers.{answerFor}
 use Rattle.tns.specs.declared.Answer.{Answer}
 use Rattle.tns.proofs.refused_at_line.Statement.{statement}

@@ -3,9 +3,9 @@ use mathlib.Core.Path.{_≡_, sym, _∙_, ap, subst}
 use mathlib.Core.List.{List}
 use Prim.Native.Nat.{ℕ, _≤_}
 use borrow.Author.Needs.{needs}
-use Rattle.tns_refusals.specs.Refusals.{Verdict, accepted, refused, placeOf, ofFault, itsBits, says}
-use Rattle.tns_cost.specs.Cost.{costOf, costSays}
-use Rattle.tns_cost.proofs.Costs.{cost-at-most}
+use Rattle.check_refusals.specs.Refusals.{Verdict, accepted, refused, placeOf, ofFault, itsBits, says}
+use Rattle.cost_call.specs.Cost.{costOf, costSays}
+use Rattle.cost_call.proofs.Costs.{cost-at-most}
 use Rattle.tns.specs.Answers.{answerFor}
 use Rattle.tns.specs.declared.Answer.{Answer}
 use Rattle.tns.proofs.Small.{cost-place}

@@ -3,8 +3,8 @@ use mathlib.Core.Path.{_≡_, sym, _∙_, ap, subst}
 use Prim.Native.Nat.{_≤_}
 use borrow.Author.Needs.{needs}
 use lib.ListN.{length}
-use Rattle.tns_refusals.specs.Refusals.{Verdict, refused, noFault, placeOf, ofFault, noBits, says}
-use Rattle.tns_decode.specs.Decoder.{decodeChecks, decodeSays}
+use Rattle.check_refusals.specs.Refusals.{Verdict, refused, noFault, placeOf, ofFault, noBits, says}
+use Rattle.call_decode.specs.Decoder.{decodeChecks, decodeSays}
 use Rattle.tns.specs.Answers.{answerFor}
 use Rattle.tns.proofs.Small.{decode-place}
 use Rattle.tns.proofs.tns_decode.Statement.{statement}

@@ -2,9 +2,9 @@
 use mathlib.Core.Path.{sym, _∙_, ap, subst}
 use Prim.Native.Nat.{_≤_}
 use borrow.Author.Needs.{needs}
-use Rattle.tns_refusals.specs.Refusals.{placeOf, ofFault, noBits}
-use Rattle.tns_decode.specs.Restart.{lineAnswerSays}
-use Rattle.tns_decode.specs.declared.at_line.LineAnswer.{LineAnswer}
+use Rattle.check_refusals.specs.Refusals.{placeOf, ofFault, noBits}
+use Rattle.call_decode.specs.Restart.{lineAnswerSays}
+use Rattle.call_decode.specs.declared.at_line.LineAnswer.{LineAnswer}
 use Rattle.tns.specs.Answers.{answerFor}
 use Rattle.tns.specs.declared.Answer.{Answer}
 use Rattle.tns.proofs.told_at_line.Statement.{statement}

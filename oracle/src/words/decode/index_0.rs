@@ -24,7 +24,7 @@ fn coefficients(build: &Build) -> bool {
 }
 
 /// The smallest call that shows it: one filter of order 1 on lines of 1. The
-/// checker works it too (`IndexZero` of tns_examples).
+/// checker works it too (`IndexZero` of examples).
 fn shown(build: &Build) -> bool {
     let mut side = Side::plain(0, 1);
     side.indices[0] = 0;

@@ -63,7 +63,7 @@ impl List {
     pub fn write(&self, root: &Path, name: &str, more: &str) -> bool {
         let (records, bytes, differ) = (self.records, self.bytes.len(), self.differ);
         println!("lists: {name}: {records} records, {bytes} bytes{more}; libm differs at {differ}");
-        let path = root.join("crates/replay/data").join(name);
+        let path = root.join("crates/prog_replay/data").join(name);
         let written = std::fs::write(&path, &self.bytes);
         if let Err(error) = &written {
             println!("lists: cannot write {}: {error}", path.display());

@@ -1,5 +1,5 @@
 //! The word `lists`: writes the fixed lists of the std build's answers to
-//! crates/replay/data. The same build writes the same bytes.
+//! crates/prog_replay/data. The same build writes the same bytes.
 //! Assumes that the folder exists.
 
 mod cost;

@@ -3,8 +3,8 @@ use mathlib.Core.Path.{sym, _∙_, ap, subst}
 use Prim.Native.Nat.{ℕ, _≤_}
 use native.Mathlib.Omega.{arith}
 use borrow.Author.Needs.{needs}
-use Rattle.tns_blocks.specs.Told.{blockSays, countSaid}
-use Rattle.tns_blocks.specs.declared.check.BlockAnswer.{BlockAnswer}
+use Rattle.block_check.specs.Told.{blockSays, countSaid}
+use Rattle.block_check.specs.declared.check.BlockAnswer.{BlockAnswer}
 use Rattle.tns.specs.Blocks.{blockFor}
 use Rattle.tns.specs.declared.blocks.BlockTold.{BlockTold}
 use Rattle.tns.proofs.blocks.block_told.Statement.{statement}

@@ -1,6 +1,6 @@
 -- It tells what the door says, of at most twenty records.
 use borrow.Author.Needs.{needs}
-use Rattle.tns_blocks.proofs.Verdicts.{read-few}
+use Rattle.block_check.proofs.Verdicts.{read-few}
 use Rattle.tns.proofs.BlocksTold.{few-said, told-too}
 use Rattle.tns.proofs.blocks.tns_block_read.Statement.{statement}
 use Rattle.tns.proofs.blocks.tns_block_read.Tie as tie

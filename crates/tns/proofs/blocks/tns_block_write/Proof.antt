@@ -1,6 +1,6 @@
 -- It tells what the door says, of at most twenty records.
 use borrow.Author.Needs.{needs}
-use Rattle.tns_blocks.proofs.Verdicts.{write-few}
+use Rattle.block_check.proofs.Verdicts.{write-few}
 use Rattle.tns.proofs.BlocksTold.{few-said, told-too}
 use Rattle.tns.proofs.blocks.tns_block_write.Statement.{statement}
 use Rattle.tns.proofs.blocks.tns_block_write.Tie as tie

@@ -2,8 +2,8 @@
 use mathlib.Core.Path.{sym, _∙_, ap}
 use Prim.Native.Nat.{ℕ}
 use borrow.Author.Needs.{needs}
-use Rattle.tns_block_rescue.specs.Rescue.{rescueSays}
-use Rattle.tns_block_rescue.specs.declared.RescueAnswer.{RescueAnswer}
+use Rattle.block_rescue.specs.Rescue.{rescueSays}
+use Rattle.block_rescue.specs.declared.RescueAnswer.{RescueAnswer}
 use Rattle.tns.specs.Rescue.{rescueFor}
 use Rattle.tns.specs.declared.rescue.RescueTold.{RescueTold}
 use Rattle.tns.proofs.rescue.rescue_told.Statement.{statement}

@@ -1,0 +1,151 @@
+// The checks of a block, in the order of refusals 9 to 12. Each part has a test of its own: its sums, its
+// header apart from its number, its number, its fill and its records.
+use block_numbers::least;
+use block_numbers::sums_of;
+use block_numbers::word_of;
+use block_record::is_sound;
+use check_refusals::none_over;
+ghost use mathlib.Core.Path.{_≡_};
+ghost use mathlib.Core.Bool.{not};
+ghost use Prim.Native.Nat.{_≤_};
+ghost use lib.ListN.{length};
+ghost use Rattle.check_refusals.specs.Refusals.{numberOf, accepted, onAccepted, check};
+ghost use Rattle.block_check.specs.Blocks.{countOf, countIn, recordsIn, sumsRight, headerRight, numberRight, fillRight, soundRecords, blockVerdict, readVerdict};
+ghost use Rattle.block_check.specs.Told.{blockFault, blockSays};
+
+// Why a block is refused, in the order of request C-11's numbers 9 to 12: a short block, or one too many;
+// its sums; its header, number or fill; a record that is not sound.
+pub enum BlockRefusal {
+    Length,
+    Sums,
+    Layout,
+    Record,
+}
+
+impl BlockRefusal {
+    // Request C-11's number.
+    pub fn number(self) -> u8
+        ensures { λ r. ⌜ r ≡ numberOf (blockFault self) ⌝ }
+    {
+        match self {
+            BlockRefusal::Length => 9,
+            BlockRefusal::Sums => 10,
+            BlockRefusal::Layout => 11,
+            BlockRefusal::Record => 12,
+        }
+    }
+}
+
+// The answer of a call on a block: how many records it holds, or why it is refused.
+pub enum BlockAnswer {
+    Records(usize),
+    Refused(BlockRefusal),
+}
+
+// Whether some bytes are whole records, each of them sound.
+pub fn all_sound(bytes: &[u8]) -> bool
+    ensures { λ r. ⌜ r ≡ soundRecords (now (bytes .entry)) ⌝ }
+{
+    let mut from = 0usize;
+    while from < bytes.len() {
+        let end = least(from + 24, bytes.len());
+        if !is_sound(&bytes[from..end]) {
+            return false;
+        }
+        from = end;
+    }
+    true
+}
+
+fn are_sums_right(block: &[u8]) -> bool
+    requires { ⌜ length (now block) ≡ 512 ⌝ }
+    ensures { λ r. ⌜ r ≡ sumsRight (now (block .entry)) ⌝ }
+{
+    let sums = sums_of(block);
+    if word_of(block[508], block[509]) != sums.plain {
+        return false;
+    }
+    word_of(block[510], block[511]) == sums.weighted
+}
+
+// The header apart from the number.
+fn is_header_right(block: &[u8]) -> bool
+    requires { ⌜ length (now block) ≡ 512 ⌝ }
+    ensures { λ r. ⌜ r ≡ headerRight (now (block .entry)) ⌝ }
+{
+    if block[2] < 1 {
+        return false;
+    }
+    if block[2] > 20 {
+        return false;
+    }
+    if block[3] != 1 {
+        return false;
+    }
+    none_over(&block[4..8], 0)
+}
+
+fn is_number_right(number: u64, block: &[u8]) -> bool
+    requires { ⌜ length (now block) ≡ 512 ⌝ }
+    ensures { λ r. ⌜ r ≡ numberRight number (now (block .entry)) ⌝ }
+{
+    word_of(block[0], block[1]) as u64 == number
+}
+
+fn is_fill_right(block: &[u8]) -> bool
+    requires { ⌜ (length (now block) ≡ 512) × (countIn (now block) ≤ 20) ⌝ }
+    ensures { λ r. ⌜ r ≡ fillRight (now (block .entry)) ⌝ }
+{
+    let stop = 8 + 24 * (block[2] as usize);
+    none_over(&block[stop..508], 0)
+}
+
+// The records of a block whose header is right, or refusal 12.
+fn records_of(block: &[u8]) -> BlockAnswer
+    requires { ⌜ (length (now block) ≡ 512) × (countIn (now block) ≤ 20) ⌝ }
+    ensures { λ r. ⌜ blockSays r ≡ onAccepted countOf (check 12 (not (soundRecords (recordsIn (now (block .entry))))) (accepted (recordsIn (now (block .entry))))) ⌝ }
+{
+    let count = block[2] as usize;
+    let stop = 8 + 24 * count;
+    if all_sound(&block[8..stop]) {
+        return BlockAnswer::Records(count);
+    }
+    BlockAnswer::Refused(BlockRefusal::Record)
+}
+
+// Checks 10 to 12.
+fn judged(number: u64, block: &[u8]) -> BlockAnswer
+    requires { ⌜ (length (now block) ≡ 512) × (number ≤ 65535) ⌝ }
+    ensures { λ r. ⌜ blockSays r ≡ onAccepted countOf (blockVerdict number (now (block .entry))) ⌝ }
+{
+    if !are_sums_right(block) {
+        return BlockAnswer::Refused(BlockRefusal::Sums);
+    }
+    if !is_header_right(block) {
+        return BlockAnswer::Refused(BlockRefusal::Layout);
+    }
+    if !is_number_right(number, block) {
+        return BlockAnswer::Refused(BlockRefusal::Layout);
+    }
+    if !is_fill_right(block) {
+        return BlockAnswer::Refused(BlockRefusal::Layout);
+    }
+    records_of(block)
+}
+
+// Checks block `number` in the first 512 of some bytes, and answers how many records it gives: they
+// stand in it from byte 8 on. No bytes hold no block, and give no records.
+pub fn check_block(number: u64, bytes: &[u8]) -> BlockAnswer
+    ensures { λ r. ⌜ blockSays r ≡ onAccepted countOf (readVerdict number (now (bytes .entry))) ⌝ }
+{
+    if bytes.len() == 0 {
+        return BlockAnswer::Records(0);
+    }
+    if bytes.len() < 512 {
+        return BlockAnswer::Refused(BlockRefusal::Length);
+    }
+    if number > 65535 {
+        return BlockAnswer::Refused(BlockRefusal::Length);
+    }
+    judged(number, &bytes[0..512])
+}

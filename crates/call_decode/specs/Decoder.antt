@@ -1,0 +1,46 @@
+-- The decode call: its answer, and the spectrum after it.
+use mathlib.Core.Path.{_≡_}
+use mathlib.Core.List.{List, map}
+use Prim.Native.Nat.{ℕ}
+use lib.ListN.{length}
+use lib.Ieee.{Float}
+use Rattle.law_lists.specs.Counted.{counted}
+use Rattle.check_refusals.specs.Refusals.{Verdict, refused, unlessRefused, noFault, says}
+use Rattle.index_choice.specs.Quantizer.{coefficientOf}
+use Rattle.row_bands.specs.Durations.{durationOf}
+use Rattle.row_bands.specs.Bands.{rowOf}
+use Rattle.row_bands.specs.declared.row.Row.{Row}
+use Rattle.check_line.specs.Calls.{callChecks}
+use Rattle.lattice_decoder.specs.DecoderLattice.{lineDecoded}
+use Rattle.lattice_rows.specs.Filters.{Filter, filterWith, rowFiltered}
+use Rattle.call_decode.specs.declared.DecodeAnswer.{DecodeAnswer}
+use Rattle.call_decode.specs.declared.DecodeAnswer.the-variants.{Decoded, Refused}
+
+-- a filter of the decoder, by its order and eight indices: the same seventeen coefficients stand for them as in the encoder
+abbrev pub decoderFilter : ℕ → List ℕ → Filter
+decoderFilter order indices = filterWith (map coefficientOf indices) order
+
+-- the counted filters act on the row's bands in turn
+unfoldable pub rowDecoded : Row → ℕ → List ℕ → List ℕ → List Float → List Float
+rowDecoded row filters orders indices lines = rowFiltered lineDecoded row (counted decoderFilter filters orders indices) lines
+
+-- refusals 1 to 7, in number order
+unfoldable pub decodeChecks : ℕ → ℕ → ℕ → List ℕ → List ℕ → ℕ → Verdict (Unit {0})
+decodeChecks duration bandwidth filters orders indices lines = callChecks duration bandwidth filters orders indices lines noFault
+
+-- the spectrum after the call, and on a refusal the lines that came in
+unfoldable pub spectrumDecoded : ℕ → ℕ → ℕ → List ℕ → List ℕ → List Float → List Float
+spectrumDecoded duration bandwidth filters orders indices lines =
+    unlessRefused (decodeChecks duration bandwidth filters orders indices (length lines))
+    (λ u. rowDecoded (rowOf (durationOf duration) bandwidth) filters orders indices lines)
+    lines
+
+-- what an answer of the decode call says
+abbrev pub decodeSays : DecodeAnswer → Verdict (Unit {0})
+decodeSays Decoded = noFault
+decodeSays (Refused why) = refused (says why)
+
+-- What the call promises: what it answers, and the lines that it leaves of those that it finds.
+pub record Decodes (duration bandwidth filters : ℕ) (orders indices : List ℕ) (found left : List Float) (result : DecodeAnswer) : Type 0 where
+  pub answer : decodeSays result ≡ decodeChecks duration bandwidth filters orders indices (length found)
+  pub lines : left ≡ spectrumDecoded duration bandwidth filters orders indices found

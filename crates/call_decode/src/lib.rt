@@ -1,0 +1,144 @@
+// The decode call. A frame goes through it in the order of this file: its checks in `decode`, then the
+// counted filters in the caller's own spectrum, each over the lines of its band, with coefficients by
+// its indices. This undoes the encoder's filter. Save and restart, which split a run at a line, are in
+// `at_line`.
+mod at_line;
+
+pub use at_line::LineAnswer;
+pub use at_line::restart;
+pub use at_line::save;
+use check_frame::FrameAnswer;
+use check_frame::check_frame;
+use check_refusals::Refusal;
+use check_refusals::SideAnswer;
+use check_refusals::check_side;
+use index_choice::eight_coefficients;
+use lattice_decoder::band_decoded;
+use row_bands::Band;
+use row_bands::Row;
+ghost use mathlib.Core.Path.{_≡_};
+ghost use Prim.Native.Nat.{_≤_};
+ghost use lib.ListN.{length};
+ghost use Rattle.law_lists.specs.Counted.{counted};
+ghost use Rattle.check_refusals.specs.Refusals.{SoundSide};
+ghost use Rattle.row_bands.proofs.Bands.{Fits, SoundRow};
+ghost use Rattle.lattice_decoder.specs.DecoderLattice.{lineDecoded};
+ghost use Rattle.lattice_rows.specs.Filters.{FilteredIn, FilteredRow};
+ghost use Rattle.call_decode.specs.Decoder.{decoderFilter, rowDecoded, Decodes};
+
+// The answer of `decode`.
+pub enum DecodeAnswer {
+    Decoded,
+    Refused(Refusal),
+}
+
+// Decodes a spectrum in place. Any numbers and lists may be given: a frame or side data that document
+// 01 refuses is refused by number and leaves every line as it was.
+pub fn decode(
+    duration: u8,
+    bandwidth: u8,
+    filters: u8,
+    orders: &[u8],
+    indices: &[u8],
+    lines: &mut [f32],
+) -> DecodeAnswer
+    ensures { λ r. ⌜ Decodes duration bandwidth filters (now (orders .entry)) (now (indices .entry)) (now (lines .entry)) (now (lines .exit)) r ⌝ }
+{
+    let frame = check_frame(duration, bandwidth, lines.len());
+    match frame {
+        FrameAnswer::Refused(why) => DecodeAnswer::Refused(why),
+        FrameAnswer::Sound(row) => {
+            let side = check_side(filters, orders, indices);
+            match side {
+                SideAnswer::Refused(why) => DecodeAnswer::Refused(why),
+                SideAnswer::Sound => {
+                    row_decoded(row, filters, orders, indices, lines);
+                    DecodeAnswer::Decoded
+                }
+            }
+        }
+    }
+}
+
+// A sound frame with sound side data: the row's bands decoded, and nothing done where every counted
+// filter has order 0.
+fn row_decoded(row: Row, filters: u8, orders: &[u8], indices: &[u8], lines: &mut [f32])
+    requires { ⌜ SoundRow row (length (now lines)) ⌝ }
+    requires { ⌜ SoundSide filters (now orders) (now indices) ⌝ }
+    ensures { λ _. ⌜ now (lines .exit) ≡ rowDecoded row filters (now (orders .entry)) (now (indices .entry)) (now (lines .entry)) ⌝ }
+{
+    if orders[0] == 0 {
+        if filters == 1 {
+            return;
+        }
+        if orders[1] == 0 {
+            return;
+        }
+    }
+    filters_decoded(row, filters, orders, indices, [0.0; 8], lines);
+}
+
+// The counted filters, each in its band, the states carried from the first to the second. It answers
+// the states after them.
+fn filters_decoded(
+    row: Row,
+    filters: u8,
+    orders: &[u8],
+    indices: &[u8],
+    states: [f32; 8],
+    lines: &mut [f32],
+) -> [f32; 8]
+    requires { ⌜ SoundRow row (length (now lines)) ⌝ }
+    requires { ⌜ SoundSide filters (now orders) (now indices) ⌝ }
+    ensures { λ r. ⌜ FilteredRow lineDecoded row (counted decoderFilter filters (now (orders .entry)) (now (indices .entry))) states (now (lines .entry)) r (now (lines .exit)) ⌝ }
+{
+    if filters == 0 {
+        return states;
+    }
+    let after = filter_decoded(row.first, orders[0], &indices[0..8], states, lines);
+    if filters == 1 {
+        return after;
+    }
+    filter_decoded(row.second, orders[1], &indices[8..16], after, lines)
+}
+
+// One filter, in its band of the whole spectrum. It answers the states after it.
+fn filter_decoded(
+    band: Band,
+    order: u8,
+    indices: &[u8],
+    states: [f32; 8],
+    lines: &mut [f32],
+) -> [f32; 8]
+    requires { ⌜ Fits band (length (now lines)) ⌝ }
+    requires { ⌜ (order ≤ 8) × (length (now indices) ≡ 8) ⌝ }
+    ensures { λ r. ⌜ FilteredIn lineDecoded band (decoderFilter order (now (indices .entry))) states (now (lines .entry)) r (now (lines .exit)) ⌝ }
+{
+    if order == 0 {
+        return states;
+    }
+    let start = band.start;
+    let stop = band.stop;
+    if start == stop {
+        return states;
+    }
+    let q = eight_coefficients(eight_of(indices));
+    band_decoded(q, order, states, &mut lines[start..stop])
+}
+
+// A filter's eight indices.
+fn eight_of(indices: &[u8]) -> [u8; 8]
+    requires { ⌜ length (now indices) ≡ 8 ⌝ }
+    ensures { λ r. ⌜ r ≡ now (indices .entry) ⌝ }
+{
+    [
+        indices[0],
+        indices[1],
+        indices[2],
+        indices[3],
+        indices[4],
+        indices[5],
+        indices[6],
+        indices[7],
+    ]
+}

@@ -1,0 +1,27 @@
+-- Any two results that a contract allows for one input coincide: the law of `check_refusals`, cited for `encode`, and with it what is left in the
+-- lines that were lent. The logic has one NaN, so of a line that is a NaN the bits are left open.
+use mathlib.Core.Path.{_≡_, refl, ap}
+use mathlib.Core.List.{List}
+use lib.Ieee.{Float}
+use Rattle.check_refusals.proofs.Eight.{of-eight}
+use Rattle.check_refusals.proofs.Determined.{DeterminedWith, of-parts, coincide, itself, answerBack}
+use Rattle.call_encode.specs.Encoder.{encodeSays}
+use Rattle.side_data.specs.declared.SideData.{SideData}
+use Rattle.call_encode.specs.declared.Encoded.{Encoded}
+use Rattle.call_encode.specs.declared.EncodeAnswer.{EncodeAnswer}
+use Rattle.call_encode.specs.declared.EncodeAnswer.the-variants.{Bits, Refused}
+use Rattle.call_encode.proofs.encode.Kinds as encode-kinds
+use Rattle.call_encode.proofs.encode.Reads as encode-reads
+
+abbrev encoded : EncodeAnswer → SideData → Encoded
+encoded answer side = record { answer = answer; side = side }
+
+encodeBack : (answer : EncodeAnswer) → answerBack Bits Refused (encodeSays answer) ≡ answer
+encodeBack (Bits bits) = refl
+encodeBack (Refused why) = ap Refused (of-eight why .back)
+
+encode : DeterminedWith 1 encode-kinds.ps encode-kinds.r encode-reads.Post (List Float) (λ κs s. s .1 .1 .1 .1 .0 .now)
+encode κs a x y s t p q = (
+  of-parts encoded (coincide encodeSays (answerBack Bits Refused) encodeBack (p .answer) (q .answer)) (itself (p .side) (q .side)),
+  itself (p .lines) (q .lines),
+)

@@ -1,0 +1,130 @@
+// The encode call. A frame goes through it in the order of this file: its checks and its weighting in
+// `encode`, its analysis in `row_encoded`, then both filters in the caller's own spectrum, each over
+// the lines of its band.
+use check_frame::FrameAnswer;
+use check_frame::check_frame;
+use check_refusals::Refusal;
+use lattice_encoder::band_encoded;
+use row_bands::Band;
+use row_bands::Row;
+use row_bands::duration_of;
+use row_bands::lpc_weighting;
+use shape_frame::analyse_frame;
+use side_data::Quantized;
+use side_data::SideData;
+ghost use mathlib.Core.Path.{_≡_};
+ghost use Prim.Native.Nat.{_≤_};
+ghost use lib.ListN.{length};
+ghost use Rattle.row_bands.specs.Durations.{durationOf};
+ghost use Rattle.row_bands.specs.Bands.{rowOf};
+ghost use Rattle.row_bands.proofs.Bands.{Fits, SoundRow};
+ghost use Rattle.lattice_encoder.specs.EncoderLattice.{lineEncoded};
+ghost use Rattle.lattice_rows.specs.Filters.{filterWith, FilteredIn};
+ghost use Rattle.side_data.specs.Side.{noFilter};
+ghost use Rattle.side_data.specs.Limits.{Reported};
+ghost use Rattle.lattice_exact.specs.SideFilters.{filteredBy};
+ghost use Rattle.shape_frame.specs.FrameSide.{sideOf};
+ghost use Rattle.call_encode.specs.Encoder.{encodeVerdict, Encodes, refusedWith, RowEncodes};
+
+// The answer of `encode`: the bits of the side data, or why there are none.
+pub enum EncodeAnswer {
+    Bits(u16),
+    Refused(Refusal),
+}
+
+// The answer, with the side data beside it.
+pub struct Encoded {
+    pub answer: EncodeAnswer,
+    pub side: SideData,
+}
+
+// Encodes a spectrum in place. Any numbers may be given: a frame that document 01 refuses is refused
+// by number, leaves every line as it was, and has no side data. `flag` is the near-Nyquist flag.
+pub fn encode(duration: u8, bandwidth: u8, nbits: u64, flag: bool, lines: &mut [f32]) -> Encoded
+    ensures { λ r. ⌜ Encodes (encodeVerdict duration bandwidth nbits flag (now (lines .entry))) (rowOf (durationOf duration) bandwidth) (now (lines .entry)) (now (lines .exit)) r ⌝ }
+{
+    let frame = check_frame(duration, bandwidth, lines.len());
+    match frame {
+        FrameAnswer::Refused(why) => refused(why),
+        FrameAnswer::Sound(row) => {
+            let weighting = lpc_weighting(duration_of(duration), nbits);
+            row_encoded(row, flag, weighting, lines)
+        }
+    }
+}
+
+fn no_filter() -> Quantized
+    ensures { λ r. ⌜ r ≡ noFilter ⌝ }
+{
+    Quantized {
+        coefficients: [0.0; 8],
+        indices: [0; 8],
+        order: 0,
+    }
+}
+
+// What a refused call gives beside the refusal: nothing.
+fn refused(why: Refusal) -> Encoded
+    ensures { λ r. ⌜ r ≡ refusedWith why ⌝ }
+{
+    let first = no_filter();
+    let second = no_filter();
+    let side = SideData {
+        weighting: 0,
+        filters: 0,
+        first,
+        second,
+    };
+    Encoded {
+        answer: EncodeAnswer::Refused(why),
+        side,
+    }
+}
+
+// A sound frame: the bits and the side data of its filters, and its bands filtered.
+fn row_encoded(row: Row, flag: bool, weighting: u8, lines: &mut [f32]) -> Encoded
+    requires { ⌜ SoundRow row (length (now lines)) ⌝ }
+    ensures { λ r. ⌜ RowEncodes (sideOf row (now (lines .entry)) flag weighting) row (now (lines .entry)) (now (lines .exit)) r ⌝ }
+{
+    let found = analyse_frame(lines, row, flag, weighting);
+    let side = found.side;
+    two_encoded(row, side, lines);
+    Encoded {
+        answer: EncodeAnswer::Bits(found.bits),
+        side,
+    }
+}
+
+// Both filters, each in its band, the states carried from the first to the second.
+fn two_encoded(row: Row, side: SideData, lines: &mut [f32])
+    requires { ⌜ SoundRow row (length (now lines)) ⌝ }
+    requires { ⌜ Reported side ⌝ }
+    ensures { λ _. ⌜ now (lines .exit) ≡ filteredBy side row (now (lines .entry)) ⌝ }
+{
+    let first = side.first;
+    let second = side.second;
+    let q = first.coefficients;
+    let states = filter_encoded(row.first, q, first.order, [0.0; 8], lines);
+    let p = second.coefficients;
+    filter_encoded(row.second, p, second.order, states, lines);
+}
+
+// One filter, in its band of the whole spectrum. It answers the states after it.
+fn filter_encoded(
+    band: Band,
+    q: [f32; 8],
+    order: u8,
+    states: [f32; 8],
+    lines: &mut [f32],
+) -> [f32; 8]
+    requires { ⌜ Fits band (length (now lines)) ⌝ }
+    requires { ⌜ order ≤ 8 ⌝ }
+    ensures { λ r. ⌜ FilteredIn lineEncoded band (filterWith q order) states (now (lines .entry)) r (now (lines .exit)) ⌝ }
+{
+    if order == 0 {
+        return states;
+    }
+    let start = band.start;
+    let stop = band.stop;
+    band_encoded(q, order, states, &mut lines[start..stop])
+}

@@ -1,0 +1,43 @@
+-- Document 01, "Refusal numbers", and request C-22: what a decode call checks. All have refusals 1 to 7; a call at a line has 16 and 17 after them.
+use mathlib.Core.Bool.{_||_, not}
+use mathlib.Core.List.{List}
+use Prim.Native.Nat.{ℕ}
+use lib.Dec.{ltb, eqb}
+use Rattle.check_refusals.specs.Refusals.{Fault, numbered, Verdict, refused, noFault, check, says, sideChecks}
+use Rattle.row_bands.specs.Durations.{durationOf}
+use Rattle.row_bands.specs.Bands.{rowOf, lastStop}
+use Rattle.row_bands.specs.declared.row.Row.{Row}
+use Rattle.check_frame.specs.Frames.{frameChecks}
+use Rattle.check_line.specs.declared.LineRefusal.{LineRefusal}
+use Rattle.check_line.specs.declared.LineRefusal.the-variants.{Call, Line, OutputLength}
+use Rattle.check_line.specs.declared.LineCheck.{LineCheck}
+use Rattle.check_line.specs.declared.LineCheck.the-variants.{Sound, Refused}
+
+-- refusals 1 to 7, in number order, for a spectrum of so many lines
+abbrev pub callChecks : {A : Type 0} → ℕ → ℕ → ℕ → List ℕ → List ℕ → ℕ → Verdict A → Verdict A
+callChecks duration bandwidth filters orders indices lines next = frameChecks duration bandwidth lines (sideChecks filters orders indices next)
+
+-- 16: line n below the row's first start, or over its last stop. 17: an output of another length than the spectrum
+abbrev pub lineChecks : {A : Type 0} → Row → ℕ → ℕ → ℕ → Verdict A → Verdict A
+lineChecks row lines n output next =
+    check 16 (ltb n (row .first .start) || ltb (lastStop row) n)
+    (check 17 (not (eqb output lines))
+    next)
+
+-- refusals 1 to 7, 16 and 17, in number order: 1 to 7 are judged on the spectrum
+unfoldable pub lineCallChecks : ℕ → ℕ → ℕ → List ℕ → List ℕ → ℕ → ℕ → ℕ → Verdict (Unit {0})
+lineCallChecks duration bandwidth filters orders indices lines n output =
+    callChecks duration bandwidth filters orders indices lines
+    (lineChecks (rowOf (durationOf duration) bandwidth) lines n output
+    noFault)
+
+-- the number, and for 6 and 7 the place and the found value, of each refusal of a call at a line
+abbrev pub lineSays : LineRefusal → Fault
+lineSays (Call why) = says why
+lineSays Line = numbered 16
+lineSays OutputLength = numbered 17
+
+-- what the checks 16 and 17 say
+abbrev pub lineCheckSays : LineCheck → Verdict (Unit {0})
+lineCheckSays Sound = noFault
+lineCheckSays (Refused why) = refused (lineSays why)

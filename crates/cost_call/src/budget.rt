@@ -1,0 +1,72 @@
+// The cost of side data in bits: E's `calc_bit_budget` in whole numbers, and the door that checks its
+// input first.
+use check_refusals::Refusal;
+use check_refusals::SideAnswer;
+use check_refusals::check_side;
+use cost_charges::coef_bits_below;
+use cost_tables::order_bits;
+ghost use mathlib.Core.Path.{_≡_};
+ghost use Rattle.check_refusals.specs.Refusals.{SoundSide};
+ghost use Rattle.cost_call.specs.Cost.{filterCost, FilterPriced, countedBits, costOf, Priced};
+
+// The answer of `cost`: the bits, or why there are none.
+pub enum CostAnswer {
+    Bits(u16),
+    Refused(Refusal),
+}
+
+fn widened(x: u16) -> u32
+    ensures { λ r. ⌜ r ≡ x ⌝ }
+{
+    x as u32
+}
+
+// The cost of one filter in 2048ths of a bit: its order's and that of its indices below the order.
+fn filter_cost(weighting: u8, order: u8, indices: &[u8]) -> u32
+    ensures { λ r. ⌜ r ≡ filterCost weighting order (now (indices .entry)) ⌝ }
+{
+    if order == 0 {
+        return 0;
+    }
+    widened(order_bits(weighting, order)) + coef_bits_below(order, indices)
+}
+
+// The bits of one filter, rounded up by itself, with the one bit that says whether it is on.
+pub fn filter_bits(weighting: u8, order: u8, indices: &[u8]) -> u16
+    ensures { λ r. ⌜ FilterPriced weighting order (now (indices .entry)) r ⌝ }
+{
+    let cost = filter_cost(weighting, order, indices);
+    1 + ((cost + 2047) / 2048) as u16
+}
+
+// The bits of the counted filters.
+fn counted_bits(weighting: u8, filters: u8, orders: &[u8], indices: &[u8]) -> u16
+    requires { ⌜ SoundSide filters (now orders) (now indices) ⌝ }
+    ensures { λ r. ⌜ r ≡ countedBits weighting filters (now (orders .entry)) (now (indices .entry)) ⌝ }
+{
+    if filters == 0 {
+        return 0;
+    }
+    let first = filter_bits(weighting, orders[0], &indices[0..8]);
+    if filters == 1 {
+        return first;
+    }
+    first + filter_bits(weighting, orders[1], &indices[8..16])
+}
+
+// The cost of a frame's side data, for any numbers and lists of any lengths: refusals 4 to 8, or the
+// bits.
+pub fn cost(weighting: u8, filters: u8, orders: &[u8], indices: &[u8]) -> CostAnswer
+    ensures { λ r. ⌜ Priced (costOf weighting filters (now (orders .entry)) (now (indices .entry))) r ⌝ }
+{
+    let side = check_side(filters, orders, indices);
+    match side {
+        SideAnswer::Refused(why) => CostAnswer::Refused(why),
+        SideAnswer::Sound => {
+            if weighting > 1 {
+                return CostAnswer::Refused(Refusal::Weighting);
+            }
+            CostAnswer::Bits(counted_bits(weighting, filters, orders, indices))
+        }
+    }
+}

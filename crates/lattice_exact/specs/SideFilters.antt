@@ -1,0 +1,14 @@
+-- The filters that side data are: the first one's coefficients and order, then the second's, and what they leave of a spectrum.
+use mathlib.Core.List.{List, [], _∷_}
+use lib.Ieee.{Float}
+use Rattle.row_bands.specs.declared.row.Row.{Row}
+use Rattle.lattice_encoder.specs.EncoderLattice.{lineEncoded}
+use Rattle.lattice_rows.specs.Filters.{Filter, filterWith, rowFiltered}
+use Rattle.side_data.specs.declared.SideData.{SideData}
+
+abbrev pub filtersIn : SideData → List Filter
+filtersIn side = filterWith (side .first .coefficients) (side .first .order) ∷ filterWith (side .second .coefficients) (side .second .order) ∷ []
+
+-- the lines through both filters of some side data, each in its band
+unfoldable pub filteredBy : SideData → Row → List Float → List Float
+filteredBy side row lines = rowFiltered lineEncoded row (filtersIn side) lines

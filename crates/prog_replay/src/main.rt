@@ -1,0 +1,433 @@
+// Replays lists of calls with the answers that they must have: the files that its arguments name. The
+// Rust's own answers stand in four of them (`oracle/run lists`), and those of a model of the documents
+// in the fifth (`oracle/worked.py`). All lists have one form, which `oracle/README.md` states. A call
+// goes to the functions that the library exports; the index rule, which it does not export, to the
+// two that have it.
+//
+// Of each list it writes a line for each record that differs, with the first number that does, and
+// last how many records there are and how many differ. A list that ends inside a record differs
+// there: a word that is not there is expected as 2^64 - 1, which nothing answers.
+use index_choice::coefficient_of;
+use index_choice::index_of;
+use libc::STDOUT_FILENO;
+use tns::Answer;
+use tns::tns_cost;
+use tns::tns_decode;
+use tns::tns_decode_restart;
+use tns::tns_decode_save;
+use tns::tns_encode;
+ghost use mathlib.Core.Path.{_≡_};
+ghost use Prim.Native.Nat.{_+_, _*_, _<_, _≤_};
+ghost use lib.Ieee.{binary32, ofBits, toBits};
+
+// The f32 of a bit pattern. Every NaN pattern gives a NaN, whose own bits the language leaves open.
+fn float_of(pattern: u32) -> f32
+    ensures { λ r. ⌜ r ≡ ofBits binary32 pattern ⌝ }
+{
+    if pattern % 0x8000_0000 > 0x7f80_0000 {
+        return 0.0 / 0.0;
+    }
+    f32::from_bits(pattern)
+}
+
+// The bit pattern of an f32. One pattern stands for every NaN.
+fn pattern_of(x: f32) -> u32
+    ensures { λ r. ⌜ r ≡ toBits binary32 x ⌝ }
+{
+    if x != x {
+        return 0x7fc0_0000;
+    }
+    f32::to_bits(x)
+}
+
+// The number of four bytes, low byte first.
+fn word(a: u8, b: u8, c: u8, d: u8) -> u32
+    ensures { λ r. ⌜ r ≡ a + 256 * b + 65536 * c + 16777216 * d ⌝ }
+{
+    a as u32 + 256 * (b as u32) + 65536 * (c as u32) + 16777216 * (d as u32)
+}
+
+// The next word of a list, or 2^64 - 1 where the list ends before it does.
+fn next(list: i32) -> u64 {
+    let mut bytes = [0u8; 4];
+    if io::read_full(list, &mut bytes) < 4 {
+        return u64::MAX;
+    }
+    word(bytes[0], bytes[1], bytes[2], bytes[3]) as u64
+}
+
+// The next word of a call. One that is not there is 0: the answer after it is not there either.
+fn given(list: i32) -> u32 {
+    let word = next(list);
+    if word > 0xffff_ffff {
+        return 0;
+    }
+    word as u32
+}
+
+fn given_line(list: i32) -> f32 {
+    float_of(given(list))
+}
+
+fn read_lines(list: i32, lines: &mut [f32]) {
+    for i in 0..lines.len() {
+        lines[i] = given_line(list);
+    }
+}
+
+fn put(text: &[u8]) {
+    io::write_all(STDOUT_FILENO, text);
+}
+
+fn labelled(label: &[u8], n: u64) {
+    put(label);
+    io::print_decimal(STDOUT_FILENO, n);
+}
+
+// Says of a record's first number that differs what it is to be and what it is.
+fn differs(expected: u64, found: u64) {
+    labelled(b"expected ", expected);
+    labelled(b", found ", found);
+}
+
+// Whether a record differs: in an earlier number, or in this one of its answer, which the next word
+// must be.
+fn compared(list: i32, found: u64, earlier: bool) -> bool {
+    let expected = next(list);
+    if earlier || expected == found {
+        return earlier;
+    }
+    differs(expected, found);
+    true
+}
+
+fn byte_compared(list: i32, found: u8, earlier: bool) -> bool {
+    compared(list, found as u64, earlier)
+}
+
+fn line_compared(list: i32, found: f32, earlier: bool) -> bool {
+    compared(list, pattern_of(found) as u64, earlier)
+}
+
+fn side_compared(list: i32, found: [u8; 20], earlier: bool) -> bool {
+    let mut different = earlier;
+    for i in 0..20usize {
+        different = byte_compared(list, found[i], different);
+    }
+    different
+}
+
+fn lines_compared(list: i32, found: &[f32], earlier: bool) -> bool {
+    let mut different = earlier;
+    for i in 0..found.len() {
+        different = line_compared(list, found[i], different);
+    }
+    different
+}
+
+fn coefficients_compared(list: i32, found: [f32; 16], earlier: bool) -> bool {
+    lines_compared(list, &found, earlier)
+}
+
+fn states_compared(list: i32, found: [f32; 8], earlier: bool) -> bool {
+    lines_compared(list, &found, earlier)
+}
+
+fn answer_compared(list: i32, found: Answer) -> bool {
+    let a = compared(list, found.refusal as u64, false);
+    let b = compared(list, found.place as u64, a);
+    let c = compared(list, found.found as u64, b);
+    compared(list, found.bits as u64, c)
+}
+
+// An index record: its one line becomes its coefficient, and its index stands as the answer's bits.
+fn index_compared(list: i32) -> bool {
+    let index = index_of(given_line(list));
+    let answer = Answer {
+        refusal: 0,
+        place: 0,
+        found: 0,
+        bits: index as u16,
+    };
+    let a = answer_compared(list, answer);
+    line_compared(list, coefficient_of(index), a)
+}
+
+// The two words of a number of 64 bits, low word first: a bit number, or a line.
+fn two_words(list: i32) -> u64 {
+    let low = given(list) as u64;
+    low + 4294967296 * (given(list) as u64)
+}
+
+// A head: the call, its numbers, and how many orders and indices it has.
+struct Call {
+    kind: u8,
+    duration: u8,
+    bandwidth: u8,
+    choice: u8,
+    filters: u8,
+    orders: u8,
+    indices: u8,
+}
+
+// An encode record. What the call may write to holds patterns, which a refusal must leave.
+fn encode_compared(list: i32, call: Call, lines: &mut [f32]) -> bool {
+    let bits = two_words(list);
+    let lent = float_of(0xa5a5_a5a5);
+    let mut side = [0xa5u8; 20];
+    let mut coefficients = [lent; 16];
+    let answer = tns_encode(
+        call.duration,
+        call.bandwidth,
+        bits,
+        call.choice != 0,
+        lines,
+        &mut side,
+        &mut coefficients,
+    );
+    let a = answer_compared(list, answer);
+    let b = side_compared(list, side, a);
+    coefficients_compared(list, coefficients, b)
+}
+
+// The answer to a cost or decode record.
+fn answered(call: Call, orders: &[u8], indices: &[u8], lines: &mut [f32]) -> Answer {
+    if call.kind == 1 {
+        return tns_cost(call.choice, call.filters, orders, indices);
+    }
+    tns_decode(
+        call.duration,
+        call.bandwidth,
+        call.filters,
+        orders,
+        indices,
+        lines,
+    )
+}
+
+// A count, or the most that there is room for.
+fn least(count: usize, most: usize) -> usize
+    ensures { λ r. ⌜ r ≤ most ⌝ }
+{
+    if count < most { count } else { most }
+}
+
+fn orders_of(list: i32) -> [u8; 3] {
+    let mut orders = [0u8; 3];
+    io::read_full(list, &mut orders);
+    orders
+}
+
+fn indices_of(list: i32) -> [u8; 17] {
+    let mut indices = [0u8; 17];
+    io::read_full(list, &mut indices);
+    indices
+}
+
+// The same with the record's orders and indices.
+fn lists_answered(list: i32, call: Call, lines: &mut [f32]) -> Answer {
+    let orders = orders_of(list);
+    let indices = indices_of(list);
+    let o = least(call.orders as usize, 3);
+    let i = least(call.indices as usize, 17);
+    answered(call, &orders[0..o], &indices[0..i], lines)
+}
+
+// A record but for its lines.
+fn call_compared(list: i32, call: Call, lines: &mut [f32]) -> bool {
+    if call.kind == 3 {
+        return encode_compared(list, call, lines);
+    }
+    answer_compared(list, lists_answered(list, call, lines))
+}
+
+// A record with lines: they are read, the call is made, and all that it leaves is compared.
+fn replayed(list: i32, call: Call, lines: &mut [f32]) -> bool {
+    read_lines(list, lines);
+    let a = call_compared(list, call, lines);
+    lines_compared(list, lines, a)
+}
+
+fn states_of(list: i32) -> [f32; 8] {
+    let mut states = [0.0f32; 8];
+    read_lines(list, &mut states);
+    states
+}
+
+// The answer to a save or restart record.
+fn line_answered(
+    call: Call,
+    orders: &[u8],
+    indices: &[u8],
+    spectrum: &[f32],
+    output: &mut [f32],
+    n: usize,
+    states: &mut [f32; 8],
+) -> Answer {
+    if call.kind == 4 {
+        return tns_decode_save(
+            call.duration,
+            call.bandwidth,
+            call.filters,
+            orders,
+            indices,
+            spectrum,
+            output,
+            n,
+            states,
+        );
+    }
+    tns_decode_restart(
+        call.duration,
+        call.bandwidth,
+        call.filters,
+        orders,
+        indices,
+        spectrum,
+        output,
+        n,
+        states,
+    )
+}
+
+// A save or restart record from its output on. The call is made with the record's orders and indices,
+// and all that it leaves is compared.
+fn output_compared(
+    list: i32,
+    call: Call,
+    orders: [u8; 3],
+    indices: [u8; 17],
+    spectrum: &[f32],
+    output: &mut [f32],
+    n: usize,
+) -> bool {
+    read_lines(list, output);
+    let mut states = states_of(list);
+    let o = least(call.orders as usize, 3);
+    let i = least(call.indices as usize, 17);
+    let answer = line_answered(
+        call,
+        &orders[0..o],
+        &indices[0..i],
+        spectrum,
+        output,
+        n,
+        &mut states,
+    );
+    let a = answer_compared(list, answer);
+    let b = states_compared(list, states, a);
+    lines_compared(list, output, b)
+}
+
+// A save or restart record: its lines are the spectrum, which stays as it is.
+fn line_replayed(list: i32, call: Call, spectrum: &mut [f32]) -> bool {
+    read_lines(list, spectrum);
+    let orders = orders_of(list);
+    let indices = indices_of(list);
+    let n = two_words(list) as usize;
+    let m = given(list) as usize;
+    if m > 401 {
+        return out_of_range();
+    }
+    let mut output = [0.0f32; 401];
+    output_compared(list, call, orders, indices, spectrum, &mut output[0..m], n)
+}
+
+// Whether a record has a call that is none, more of something than there is room for, or an index
+// call's lines other than one.
+fn beyond(call: Call, lines: usize) -> bool {
+    if call.kind == 0 && lines != 1 {
+        return true;
+    }
+    call.kind > 5 || call.orders > 3 || call.indices > 17 || lines > 401
+}
+
+fn out_of_range() -> bool {
+    put(b"a call or a count beyond its range");
+    true
+}
+
+fn called(list: i32, call: Call) -> bool {
+    let n = given(list) as usize;
+    if beyond(call, n) {
+        return out_of_range();
+    }
+    if call.kind == 0 {
+        return index_compared(list);
+    }
+    let mut lines = [0.0f32; 401];
+    let n = least(n, 401);
+    if call.kind > 3 {
+        return line_replayed(list, call, &mut lines[0..n]);
+    }
+    replayed(list, call, &mut lines[0..n])
+}
+
+fn record(list: i32, head: [u8; 7]) -> bool {
+    let call = Call {
+        kind: head[0],
+        duration: head[1],
+        bandwidth: head[2],
+        choice: head[3],
+        filters: head[4],
+        orders: head[5],
+        indices: head[6],
+    };
+    called(list, call)
+}
+
+// One difference more, if the record differs. Its number ends the line.
+fn counted(differences: u64, number: u64, different: bool) -> u64
+    requires { ⌜ differences < 18446744073709551615 ⌝ }
+    ensures { λ r. ⌜ r ≤ differences + 1 ⌝ }
+{
+    if !different {
+        return differences;
+    }
+    labelled(b" in record ", number);
+    put(b"\n");
+    differences + 1
+}
+
+// A list's last line.
+fn report(name: &[u8], records: u64, differences: u64) {
+    put(name);
+    labelled(b": ", records);
+    labelled(b" records, ", differences);
+    put(b" differences\n");
+}
+
+// All records of an open list.
+fn records(list: i32, name: &[u8]) {
+    let mut number = 0u64;
+    let mut differences = 0u64;
+    while number < u64::MAX {
+        let mut head = [0u8; 7];
+        if io::read_full(list, &mut head) == 0 {
+            break;
+        }
+        differences = counted(differences, number, record(list, head));
+        number += 1;
+    }
+    report(name, number, differences);
+}
+
+// A list that cannot be opened has no records.
+fn opened(name: &[u8]) {
+    let list = os::open_read(name);
+    records(list, name);
+    libc::close(list);
+}
+
+// The list that an argument names.
+fn named(argument: usize) {
+    let mut name = io::buffer();
+    let length = os::arg(argument, &mut name);
+    opened(&name[..length]);
+}
+
+fn main() {
+    for argument in 1..os::arg_count() {
+        named(argument);
+    }
+}

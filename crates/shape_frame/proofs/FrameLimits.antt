@@ -1,0 +1,58 @@
+-- What the encoder reports is within the limits: orders at most 8, eight indices at most 16 for each filter.
+use mathlib.Core.Path.{_≡_, refl}
+use mathlib.Core.Bool.{Bool, true, false, cond}
+use mathlib.Core.List.{List}
+use Prim.Native.Nat.{ℕ, _≤_}
+use native.Mathlib.Omega.{arith}
+use lib.Ieee.{Float}
+use lib.ListN.{length}
+use Rattle.shape_frame.specs.Analysis.{reflectionsOf, filterRecord}
+use Rattle.shape_reflections.specs.Reflections.{reflections}
+use Rattle.law_lists.proofs.Tab.{length-tab}
+use Rattle.row_bands.specs.declared.row.Band.{Band}
+use Rattle.row_bands.specs.declared.row.Row.{Row}
+use Rattle.shape_frame.specs.FrameSide.{filterOf, secondOf, hasSecond, sideOf}
+use Rattle.side_data.specs.Limits.{Within8}
+use Rattle.side_data.specs.Limits.{Reported}
+use Rattle.side_data.proofs.Limits.{quantized-within, absent-within}
+use Rattle.side_data.specs.declared.Quantized.{Quantized}
+
+either-length : (on : Bool) (xs ys : List Float) (n : ℕ) → length xs ≡ n → length ys ≡ n → length (cond on xs ys) ≡ n
+either-length true xs ys n p q = p
+either-length false xs ys n p q = q
+
+eight-of-row : (row : List Float) → length (reflections row) ≡ 8
+unfolding reflections
+eight-of-row row = length-tab _ 8
+
+-- eight reflection coefficients
+eight-reflections : (b : Band) (lines : List Float) (flag : Bool) (weighting : ℕ) → length (reflectionsOf b lines flag weighting) ≡ 8
+unfolding reflectionsOf
+eight-reflections b lines flag weighting = either-length (filterRecord b lines flag weighting .on) _ _ 8 (eight-of-row _) refl
+
+pub filter-within : (b : Band) (lines : List Float) (flag : Bool) (weighting : ℕ) → Within8 (filterOf b lines flag weighting)
+unfolding filterOf
+filter-within b lines flag weighting = quantized-within (reflectionsOf b lines flag weighting) (eight-reflections b lines flag weighting)
+
+either-within : (two : Bool) (f g : Quantized) → Within8 f → Within8 g → Within8 (cond two f g)
+either-within true f g p q = p
+either-within false f g p q = q
+
+pub second-within : (row : Row) (lines : List Float) (flag : Bool) (weighting : ℕ) → Within8 (secondOf row lines flag weighting)
+unfolding secondOf
+second-within row lines flag weighting = either-within (hasSecond row) _ _ (filter-within (row .second) lines flag weighting) absent-within
+
+one-or-two : (two : Bool) → (1 ≤ cond two 2 1) × (cond two 2 1 ≤ 2)
+one-or-two true = (omega arith, omega arith)
+one-or-two false = (omega arith, omega arith)
+
+-- what the analysis of a frame leaves
+pub side-reported : (row : Row) (lines : List Float) (flag : Bool) (weighting : ℕ) → Reported (sideOf row lines flag weighting)
+unfolding sideOf
+side-reported row lines flag weighting =
+    record {
+      first = filter-within (row .first) lines flag weighting;
+      second = second-within row lines flag weighting;
+      one = one-or-two (hasSecond row) .0;
+      two = one-or-two (hasSecond row) .1;
+    }

@@ -1,0 +1,33 @@
+-- The side data are the definition's, and within the limits that their bits ask for.
+use mathlib.Core.Path.{_≡_, sym, subst}
+use mathlib.Core.Bool.{Bool}
+use mathlib.Core.List.{List}
+use Prim.Native.Nat.{ℕ}
+use lib.Ieee.{Float}
+use borrow.Author.Needs.{needs}
+use Rattle.side_data.specs.Side.{bitsOf}
+use Rattle.side_data.specs.Limits.{Reported}
+use Rattle.side_data.specs.declared.SideData.{SideData}
+use Rattle.row_bands.specs.declared.row.Row.{Row}
+use Rattle.shape_frame.specs.FrameSide.{sideOf, frameFound}
+use Rattle.shape_frame.specs.declared.frame.Found.{Found}
+use Rattle.shape_frame.proofs.FrameLimits.{side-reported}
+use Rattle.shape_frame.proofs.frame.analyse_frame.Statement.{statement}
+use Rattle.shape_frame.proofs.frame.analyse_frame.Tie as tie
+
+both : (row : Row) (lines : List Float) (flag : Bool) (weighting : ℕ) (side : SideData) (bits : ℕ) → side ≡ sideOf row lines flag weighting → bits ≡ bitsOf side
+    → _≡_ {A = Found} (record { bits = bits; side = side }) (frameFound row lines flag weighting)
+both row lines flag weighting side bits e f = rw (f, e)
+
+side-bits-requires : tie.Need-side-bits-requires
+side-bits-requires c κs =
+    let g = c .before .before .args in
+    subst Reported (sym (c .side-of .ensures)) (side-reported (g .row) (g .lines .now) (g .flag) (g .weighting))
+
+returns : tie.Need-returns
+returns c =
+    let g = c .before .before .before .args in
+    both (g .row) (g .lines .now) (g .flag) (g .weighting) (c .before .side-of .result) (c .side-bits .result) (c .before .side-of .ensures) (c .side-bits .ensures)
+
+pub analyse-frame-spec : {M : Type 1} → statement M
+analyse-frame-spec = tie.close (tie.spec (λ c κs. search needs) side-bits-requires returns)

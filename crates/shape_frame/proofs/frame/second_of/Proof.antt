@@ -1,0 +1,35 @@
+-- No filter where the row has no second band.
+use mathlib.Core.Path.{_≡_, _∙_}
+use mathlib.Core.Bool.{Bool}
+use mathlib.Core.List.{List}
+use Prim.Native.Nat.{ℕ}
+use borrow.Author.Needs.{needs}
+use borrow.Author.Tests.{eq-eqb, ne-eqb}
+use lib.Ieee.{Float}
+use Rattle.row_bands.specs.declared.row.Row.{Row}
+use Rattle.side_data.specs.Quantized.{absent}
+use Rattle.shape_frame.specs.FrameSide.{filterOf, secondOf}
+use Rattle.shape_frame.proofs.frame.second_of.Statement.{statement}
+use Rattle.shape_frame.proofs.frame.second_of.Tie as tie
+
+module _ (row : Row) (lines : List Float) (flag : Bool) (weighting : ℕ) where
+  no-second : row .second .stop ≡ 0 → absent ≡ secondOf row lines flag weighting
+  unfolding secondOf
+  no-second e = rw (eq-eqb (row .second .stop) 0 e)
+
+  has-second : (row .second .stop ≡ 0 → ⊥) → filterOf (row .second) lines flag weighting ≡ secondOf row lines flag weighting
+  unfolding secondOf
+  has-second h = rw (ne-eqb (row .second .stop) 0 h)
+
+returns : tie.Need-returns
+returns c =
+    let g = c .before .before .before .before .args in
+    c .none .ensures ∙ no-second (g .row) (g .lines .now) (g .flag) (g .weighting) (c .before .if1 .taken)
+
+returns-2 : tie.Need-returns-2
+returns-2 c =
+    let g = c .before .before .before .before .args in
+    c .filter-of .ensures ∙ has-second (g .row) (g .lines .now) (g .flag) (g .weighting) (c .before .if1 .left)
+
+pub second-of-spec : {M : Type 1} → statement M
+second-of-spec = tie.close (tie.spec (λ c κs. search needs) returns (λ c κs. search needs) returns-2)

@@ -1,0 +1,88 @@
+// The analysis of a frame: a filter for each band of its row, analysed and quantized, and what the side
+// data costs.
+use crate::analyse;
+use cost_call::filter_bits;
+use row_bands::Band;
+use row_bands::Row;
+use side_data::Quantized;
+use side_data::SideData;
+use side_data::none;
+use side_data::quantize_all;
+ghost use mathlib.Core.Path.{_≡_};
+ghost use Rattle.side_data.specs.Side.{bitsOf};
+ghost use Rattle.side_data.specs.Limits.{Reported};
+ghost use Rattle.shape_frame.specs.FrameSide.{countOf, filterOf, secondOf, sideOf, frameFound};
+
+// What the analysis finds in a frame: its side data, and their bits.
+pub struct Found {
+    pub bits: u16,
+    pub side: SideData,
+}
+
+// The filter of a band.
+fn filter_of(lines: &[f32], band: Band, flag: bool, weighting: u8) -> Quantized
+    ensures { λ r. ⌜ r ≡ filterOf band (now (lines .entry)) flag weighting ⌝ }
+{
+    let found = analyse(lines, band, flag, weighting);
+    if found.gain.on {
+        let reflections = found.reflections;
+        return quantize_all(reflections);
+    }
+    none()
+}
+
+// The filter of the second band, or of none.
+fn second_of(lines: &[f32], row: Row, flag: bool, weighting: u8) -> Quantized
+    ensures { λ r. ⌜ r ≡ secondOf row (now (lines .entry)) flag weighting ⌝ }
+{
+    if row.second.stop == 0 {
+        return none();
+    }
+    filter_of(lines, row.second, flag, weighting)
+}
+
+fn count_of(row: Row) -> u8
+    ensures { λ r. ⌜ r ≡ countOf row ⌝ }
+{
+    if row.second.stop == 0 { 1 } else { 2 }
+}
+
+// The side data of a frame: a filter for each band of its row.
+fn side_of(lines: &[f32], row: Row, flag: bool, weighting: u8) -> SideData
+    ensures { λ r. ⌜ r ≡ sideOf row (now (lines .entry)) flag weighting ⌝ }
+{
+    let first = filter_of(lines, row.first, flag, weighting);
+    let second = second_of(lines, row, flag, weighting);
+    let filters = count_of(row);
+    SideData {
+        weighting,
+        filters,
+        first,
+        second,
+    }
+}
+
+// The bits of one filter or of two, each rounded up by itself.
+fn side_bits(side: SideData) -> u16
+    requires { ⌜ Reported side ⌝ }
+    ensures { λ r. ⌜ r ≡ bitsOf side ⌝ }
+{
+    let first = side.first;
+    let i = first.indices;
+    let bits = filter_bits(side.weighting, first.order, &i);
+    if side.filters == 1 {
+        return bits;
+    }
+    let second = side.second;
+    let j = second.indices;
+    bits + filter_bits(side.weighting, second.order, &j)
+}
+
+// The side data of a frame, and their bits. `flag` is the near-Nyquist flag.
+pub fn analyse_frame(lines: &[f32], row: Row, flag: bool, weighting: u8) -> Found
+    ensures { λ r. ⌜ r ≡ frameFound row (now (lines .entry)) flag weighting ⌝ }
+{
+    let side = side_of(lines, row, flag, weighting);
+    let bits = side_bits(side);
+    Found { bits, side }
+}

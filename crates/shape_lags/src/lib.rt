@@ -1,0 +1,179 @@
+// The autocorrelation of a band at lags 0 to 8. The nine sums of a subband are made side by side in
+// one pass: each is added up in line order, as the definition has it, and lag 0 is the energy.
+use row_bands::Band;
+ghost use mathlib.Core.Path.{_≡_};
+ghost use Prim.Native.Nat.{_+_, _-_, _<_, _≤_, min};
+ghost use lib.ListN.{length};
+ghost use lib.Ieee.{eq};
+ghost use Rattle.law_lists.specs.Places.{at, tab, part};
+ghost use Rattle.law_rounding.specs.Floats.{_⊗_, _⊘_, f0};
+ghost use Rattle.shape_lags.specs.Autocorrelation.{lagSum, whereSilent, normalizedLag, autocorrelation};
+ghost use Rattle.shape_lags.specs.PartialSums.{addedCell, sumsTo, plainCell, lagCell};
+
+const LAG_WINDOW: [f32; 9] = [
+    1.0,
+    0.9980280260203829,
+    0.9921354055113971,
+    0.9823915844707989,
+    0.9689107911912967,
+    0.9518498073692735,
+    0.9314049334023056,
+    0.9078082299969592,
+    0.8813231366694713,
+];
+
+// A line's products with itself and the lines after it, added to the first m of the nine sums.
+fn line_added(sums: [f32; 9], lines: &[f32], n: usize, m: usize) -> [f32; 9]
+    requires { ⌜ (m ≤ 9) × (n + m ≤ length (now lines)) ⌝ }
+    ensures { λ r. ⌜ r ≡ tab (addedCell sums (now (lines .entry)) n m) 9 ⌝ }
+{
+    let mut added = sums;
+    for k in 0..m {
+        added[k] = added[k] + lines[n] * lines[n + k];
+    }
+    added
+}
+
+// The lines that have eight more after them: each has a product at every lag.
+fn whole_sums(lines: &[f32]) -> [f32; 9]
+    requires { ⌜ 8 ≤ length (now lines) ⌝ }
+    ensures { λ r. ⌜ r ≡ sumsTo (now (lines .entry)) (length (now (lines .entry)) - 8) ⌝ }
+{
+    let mut sums = [0.0; 9];
+    for n in 0..lines.len() - 8 {
+        let next = line_added(sums, lines, n, 9);
+        sums = next;
+    }
+    sums
+}
+
+// The nine sums of a subband of eight lines or more. Its last eight lines are a loop of known length,
+// which the compiler lays out.
+fn lag_sums(lines: &[f32]) -> [f32; 9]
+    requires { ⌜ 8 ≤ length (now lines) ⌝ }
+    ensures { λ r. ⌜ r ≡ tab (lagSum (now (lines .entry))) 9 ⌝ }
+{
+    let mut sums = whole_sums(lines);
+    for n in lines.len() - 8..lines.len() {
+        let next = line_added(sums, lines, n, lines.len() - n);
+        sums = next;
+    }
+    sums
+}
+
+// One lag's sum of a subband, product by product.
+fn lag_sum(lines: &[f32], k: usize) -> f32
+    requires { ⌜ k < 9 ⌝ }
+    ensures { λ r. ⌜ r ≡ lagSum (now (lines .entry)) k ⌝ }
+{
+    let mut sum = 0.0;
+    let mut n = 0usize;
+    while n + k < lines.len() {
+        sum = sum + lines[n] * lines[n + k];
+        n += 1;
+    }
+    sum
+}
+
+// The nine sums of a subband of any length, one after the other.
+fn short_sums(lines: &[f32]) -> [f32; 9]
+    ensures { λ r. ⌜ r ≡ tab (lagSum (now (lines .entry))) 9 ⌝ }
+{
+    let mut sums = [0.0; 9];
+    for k in 0..9usize {
+        sums[k] = lag_sum(lines, k);
+    }
+    sums
+}
+
+fn least(a: usize, b: usize) -> usize
+    ensures { λ r. ⌜ r ≡ min a b ⌝ }
+{
+    if a < b { a } else { b }
+}
+
+// The lines from a start to a stop, as far as there are any.
+fn part_of(lines: &[f32], start: usize, stop: usize) -> &[f32]
+    ensures { λ r. ⌜ now r ≡ part start stop (now (lines .entry)) ⌝ }
+{
+    let end = least(stop, lines.len());
+    let begin = least(start, end);
+    &lines[begin..end]
+}
+
+// What a subband adds to a lag: ac/es.
+fn quotient(sums: [f32; 9], k: usize) -> f32
+    requires { ⌜ k < 9 ⌝ }
+    ensures { λ r. ⌜ r ≡ at sums k ⊘ at sums 0 ⌝ }
+{
+    sums[k] / sums[0]
+}
+
+fn silent_lag(k: usize) -> f32
+    ensures { λ r. ⌜ r ≡ whereSilent k ⌝ }
+{
+    if k == 0 { 3.0 } else { 0.0 }
+}
+
+// One lag from the sums of the three subbands, before the window.
+fn plain_lag(silent: bool, a: [f32; 9], b: [f32; 9], c: [f32; 9], k: usize) -> f32
+    requires { ⌜ k < 9 ⌝ }
+    ensures { λ r. ⌜ r ≡ plainCell silent a b c k ⌝ }
+{
+    if silent {
+        return silent_lag(k);
+    }
+    0.0 + quotient(a, k) + quotient(b, k) + quotient(c, k)
+}
+
+fn normalized(silent: bool, a: [f32; 9], b: [f32; 9], c: [f32; 9]) -> [f32; 9]
+    ensures { λ r. ⌜ r ≡ tab (lagCell silent a b c) 9 ⌝ }
+{
+    let mut lags = [0.0; 9];
+    for k in 0..9usize {
+        lags[k] = plain_lag(silent, a, b, c, k) * LAG_WINDOW[k];
+    }
+    lags
+}
+
+// The lags from the sums of the three subbands.
+fn lags_of(a: [f32; 9], b: [f32; 9], c: [f32; 9]) -> [f32; 9]
+    ensures { λ r. ⌜ r ≡ tab (lagCell (eq (at a 0 ⊗ at b 0 ⊗ at c 0) f0) a b c) 9 ⌝ }
+{
+    let silent = a[0] * b[0] * c[0] == 0.0;
+    normalized(silent, a, b, c)
+}
+
+// The lags of three subbands that have eight lines or more, as those of every row do.
+fn long_lags(lowest: &[f32], middle: &[f32], highest: &[f32]) -> [f32; 9]
+    requires { ⌜ (8 ≤ length (now lowest)) × (8 ≤ length (now middle)) × (8 ≤ length (now highest)) ⌝ }
+    ensures { λ r. ⌜ r ≡ tab (normalizedLag (now (lowest .entry)) (now (middle .entry)) (now (highest .entry))) 9 ⌝ }
+{
+    let a = lag_sums(lowest);
+    let b = lag_sums(middle);
+    let c = lag_sums(highest);
+    lags_of(a, b, c)
+}
+
+// The same of any three.
+fn short_lags(lowest: &[f32], middle: &[f32], highest: &[f32]) -> [f32; 9]
+    ensures { λ r. ⌜ r ≡ tab (normalizedLag (now (lowest .entry)) (now (middle .entry)) (now (highest .entry))) 9 ⌝ }
+{
+    let a = short_sums(lowest);
+    let b = short_sums(middle);
+    let c = short_sums(highest);
+    lags_of(a, b, c)
+}
+
+// The nine lags of a band, for any band: a subband has the lines that lie between its cuts.
+pub fn autocorrelated(lines: &[f32], band: Band) -> [f32; 9]
+    ensures { λ r. ⌜ r ≡ autocorrelation band (now (lines .entry)) ⌝ }
+{
+    let lowest = part_of(lines, band.start, band.first_cut);
+    let middle = part_of(lines, band.first_cut, band.second_cut);
+    let highest = part_of(lines, band.second_cut, band.stop);
+    if least(least(lowest.len(), middle.len()), highest.len()) < 8 {
+        return short_lags(lowest, middle, highest);
+    }
+    long_lags(lowest, middle, highest)
+}

@@ -1,0 +1,36 @@
+-- The pieces of the line, one after the other.
+use mathlib.Core.List.{_++_}
+use native.Mathlib.Omega.{arith}
+use Rattle.io_streams.specs.Text.{ascii, decimal}
+use Rattle.io_streams.proofs.Texts.{puts-on}
+use Rattle.check_refusals.specs.Refusals.{numbered, refused}
+use Rattle.text_answers.specs.Wording.{answerText}
+use borrow.Author.Needs.{needs}
+use Rattle.text_answers.proofs.put_block_refusal.Statement.{statement}
+use Rattle.text_answers.proofs.put_block_refusal.Tie as tie
+
+returns : tie.Need-returns
+returns c =
+    let end = c .before .before in
+    let place = end .before .before .before .before .before in
+    let word = place .before .before .before .before in
+    let number = word .before .before .before .before .before in
+    let g = number .before .before .before .args in
+    let found = g .out .now in
+    let said = answerText (refused (numbered (g .refusal))) in
+    let named = puts-on said (ascii " at block ") found _ _ (g .at) _ _ (number .put-number .ensures) (word .put .ensures) (omega arith) in
+    let placed = puts-on (said ++ ascii " at block ") (decimal (g .block)) found _ _ (g .at) _ _ named (place .put-decimal .ensures) (omega arith) in
+    puts-on (said ++ ascii " at block " ++ decimal (g .block)) (ascii "\n") found _ _ (g .at) _ _ placed (end .put2 .ensures) (omega arith)
+
+pub put-block-refusal-spec : {M : Type 1} → statement M
+put-block-refusal-spec =
+    tie.close
+    (tie.spec
+    (λ c κs. search needs)
+    (λ c. search needs)
+    (λ c κs. search needs)
+    (λ c κs. search needs)
+    (λ c. search needs)
+    (λ c κs. search needs)
+    (λ c. search needs)
+    returns)

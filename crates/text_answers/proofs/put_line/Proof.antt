@@ -1,0 +1,41 @@
+-- The pieces of a line, one after the other.
+use mathlib.Core.List.{_++_}
+use native.Mathlib.Omega.{arith}
+use Rattle.io_streams.specs.Text.{ascii, decimal}
+use Rattle.io_streams.proofs.Texts.{puts-on}
+use Rattle.cost_call.specs.Records.{lineOf}
+use Rattle.text_answers.specs.Wording.{sayingText}
+use borrow.Author.Needs.{needs}
+use Rattle.text_answers.proofs.put_line.Statement.{statement}
+use Rattle.text_answers.proofs.put_line.Tie as tie
+
+returns : tie.Need-returns
+returns c =
+    let end = c .before .before in
+    let saying = end .before .before .before .before .before in
+    let colon = saying .before .before .before .before in
+    let number = colon .before .before .before .before .before in
+    let word = number .before .before .before .before in
+    let g = word .before .before .before .before .before .args in
+    let found = g .out .now in
+    let frame = decimal (g .frame) in
+    let said = sayingText (lineOf (g .bytes .now)) in
+    let numbered = puts-on (ascii "frame ") frame found _ _ (g .at) _ _ (word .put .ensures) (number .put-decimal .ensures) (omega arith) in
+    let begun = puts-on (ascii "frame " ++ frame) (ascii ": ") found _ _ (g .at) _ _ numbered (colon .put2 .ensures) (omega arith) in
+    let answered = puts-on (ascii "frame " ++ frame ++ ascii ": ") said found _ _ (g .at) _ _ begun (saying .put-saying .ensures) (omega arith) in
+    puts-on (ascii "frame " ++ frame ++ ascii ": " ++ said) (ascii "\n") found _ _ (g .at) _ _ answered (end .put3 .ensures) (omega arith)
+
+pub put-line-spec : {M : Type 1} → statement M
+put-line-spec =
+    tie.close
+    (tie.spec
+    (λ c. search needs)
+    (λ c κs. search needs)
+    (λ c κs. search needs)
+    (λ c. search needs)
+    (λ c κs. search needs)
+    (λ c κs. search needs)
+    (λ c. search needs)
+    (λ c κs. search needs)
+    (λ c. search needs)
+    returns)

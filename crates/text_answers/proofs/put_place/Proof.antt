@@ -1,0 +1,31 @@
+-- The refusal's number, a word and the place, one after the other.
+use mathlib.Core.List.{_++_}
+use native.Mathlib.Omega.{arith}
+use Rattle.io_streams.specs.Text.{ascii, decimal}
+use Rattle.io_streams.proofs.Texts.{puts-on}
+use Rattle.check_refusals.specs.Refusals.{numbered, refused}
+use Rattle.text_answers.specs.Wording.{answerText}
+use borrow.Author.Needs.{needs}
+use Rattle.text_answers.proofs.put_place.Statement.{statement}
+use Rattle.text_answers.proofs.put_place.Tie as tie
+
+returns : tie.Need-returns
+returns c =
+    let place = c .before .before in
+    let word = place .before .before .before .before in
+    let number = word .before .before .before .before .before in
+    let g = number .before .before .before .args in
+    let said = answerText (refused (numbered (g .number))) in
+    let begun = puts-on said (ascii " at ") (g .out .now) _ _ (g .at) _ _ (number .put-number .ensures) (word .put .ensures) (omega arith) in
+    puts-on (said ++ ascii " at ") (decimal (g .place)) (g .out .now) _ _ (g .at) _ _ begun (place .put-decimal .ensures) (omega arith)
+
+pub put-place-spec : {M : Type 1} → statement M
+put-place-spec =
+    tie.close
+    (tie.spec
+    (λ c κs. search needs)
+    (λ c. search needs)
+    (λ c κs. search needs)
+    (λ c κs. search needs)
+    (λ c. search needs)
+    returns)

@@ -1,0 +1,24 @@
+-- Document 01, "Table of marked cases", the program: the line of text for a record.
+use mathlib.Core.List.{List, _++_}
+use Prim.Native.Nat.{ℕ}
+use Rattle.check_refusals.specs.Refusals.{numbered, placed, Verdict, accepted, refused}
+use Rattle.cost_call.specs.Records.{Line, short, costs}
+use Rattle.io_streams.specs.Text.{ascii, decimal}
+
+-- it always says "bits", also for 1; refusals 6 and 7 end with their place, the others after their number
+abbrev pub answerText : Verdict ℕ → List ℕ
+answerText (accepted bits) = decimal bits ++ ascii " bits"
+answerText (refused (numbered number)) = ascii "refused " ++ decimal number
+answerText (refused (placed number place found)) = ascii "refused " ++ decimal number ++ ascii " at " ++ decimal place
+
+abbrev pub sayingText : Line → List ℕ
+sayingText short = ascii "short"
+sayingText (costs verdict) = answerText verdict
+
+-- a frame's line
+abbrev pub lineText : ℕ → Line → List ℕ
+lineText frame line = ascii "frame " ++ decimal frame ++ ascii ": " ++ sayingText line ++ ascii "\n"
+
+-- Request C-11 by the programs: a refusal is one line, with its block
+abbrev pub blockRefusalText : ℕ → ℕ → List ℕ
+blockRefusalText refusal block = answerText (refused (numbered refusal)) ++ ascii " at block " ++ decimal block ++ ascii "\n"

@@ -1,0 +1,81 @@
+// The text of a record's line, as the bits program writes it, and that of a refused block.
+use check_refusals::Refusal;
+use cost_call::CostAnswer;
+use cost_call::RecordAnswer;
+use io_streams::put;
+use io_streams::put_decimal;
+ghost use Rattle.check_refusals.specs.Refusals.{numbered, placed, refused, says};
+ghost use Rattle.cost_call.specs.Cost.{costSays};
+ghost use Rattle.cost_call.specs.Records.{lineOf};
+ghost use Rattle.io_streams.specs.Text.{Puts};
+ghost use Rattle.text_answers.specs.Wording.{answerText, sayingText, lineText, blockRefusalText};
+
+fn put_number(number: u8, out: &mut [u8], at: usize) -> usize
+    ensures { λ r. ⌜ Puts (answerText (refused (numbered number))) (now (out .entry)) at r (now (out .exit)) ⌝ }
+{
+    let named = put(b"refused ", out, at);
+    put_decimal(number as u64, out, named)
+}
+
+fn put_place(number: u8, place: usize, out: &mut [u8], at: usize) -> usize
+    ensures { λ r. ⌜ Puts (answerText (refused (placed number place 0))) (now (out .entry)) at r (now (out .exit)) ⌝ }
+{
+    let numbered = put_number(number, out, at);
+    let placed = put(b" at ", out, numbered);
+    put_decimal(place as u64, out, placed)
+}
+
+// Refusals 6 and 7 end with their place, the others after their number.
+fn put_refusal(why: Refusal, out: &mut [u8], at: usize) -> usize
+    ensures { λ r. ⌜ Puts (answerText (refused (says why))) (now (out .entry)) at r (now (out .exit)) ⌝ }
+{
+    let number = why.number();
+    match why {
+        Refusal::Order { place, found: _ } => put_place(number, place, out, at),
+        Refusal::Index { place, found: _ } => put_place(number, place, out, at),
+        _ => put_number(number, out, at),
+    }
+}
+
+fn put_cost(answer: CostAnswer, out: &mut [u8], at: usize) -> usize
+    ensures { λ r. ⌜ Puts (answerText (costSays answer)) (now (out .entry)) at r (now (out .exit)) ⌝ }
+{
+    match answer {
+        CostAnswer::Bits(bits) => {
+            let numbered = put_decimal(bits as u64, out, at);
+            put(b" bits", out, numbered)
+        }
+        CostAnswer::Refused(why) => put_refusal(why, out, at),
+    }
+}
+
+fn put_saying(bytes: &[u8], out: &mut [u8], at: usize) -> usize
+    ensures { λ r. ⌜ Puts (sayingText (lineOf (now (bytes .entry)))) (now (out .entry)) at r (now (out .exit)) ⌝ }
+{
+    let answer = cost_call::record_cost(bytes);
+    match answer {
+        RecordAnswer::Short => put(b"short", out, at),
+        RecordAnswer::Whole(cost) => put_cost(cost, out, at),
+    }
+}
+
+// A frame's line: what the record in the bytes costs, or why it is refused, or that they are too few.
+pub fn put_line(frame: u64, bytes: &[u8], out: &mut [u8], at: usize) -> usize
+    ensures { λ r. ⌜ Puts (lineText frame (lineOf (now (bytes .entry)))) (now (out .entry)) at r (now (out .exit)) ⌝ }
+{
+    let named = put(b"frame ", out, at);
+    let numbered = put_decimal(frame, out, named);
+    let begun = put(b": ", out, numbered);
+    let said = put_saying(bytes, out, begun);
+    put(b"\n", out, said)
+}
+
+// The line of a block that is refused, with its place in the file.
+pub fn put_block_refusal(refusal: u8, block: u64, out: &mut [u8], at: usize) -> usize
+    ensures { λ r. ⌜ Puts (blockRefusalText refusal block) (now (out .entry)) at r (now (out .exit)) ⌝ }
+{
+    let numbered = put_number(refusal, out, at);
+    let named = put(b" at block ", out, numbered);
+    let placed = put_decimal(block, out, named);
+    put(b"\n", out, placed)
+}

@@ -1,0 +1,64 @@
+// The lines of a rescue's report, put into a text one after the other.
+use io_streams::put;
+use io_streams::put_decimal;
+ghost use Rattle.check_refusals.specs.Refusals.{numbered};
+ghost use Rattle.io_streams.specs.Text.{Puts};
+ghost use Rattle.file_rescued.specs.Rescues.{dropped, moved, stray, keptEntries, leftEntries};
+ghost use Rattle.text_report.specs.ReportText.{blockText, entryText, reportText};
+
+fn put_block(place: u64, out: &mut [u8], at: usize) -> usize
+    ensures { λ r. ⌜ Puts (blockText place) (now (out .entry)) at r (now (out .exit)) ⌝ }
+{
+    let named = put(b"block ", out, at);
+    put_decimal(place, out, named)
+}
+
+// A block that is dropped, with its fault.
+fn put_dropped(place: u64, fault: u8, out: &mut [u8], at: usize) -> usize
+    ensures { λ r. ⌜ Puts (entryText (dropped place (numbered fault))) (now (out .entry)) at r (now (out .exit)) ⌝ }
+{
+    let placed = put_block(place, out, at);
+    let said = put(b" dropped ", out, placed);
+    let numbered = put_decimal(fault as u64, out, said);
+    put(b"\n", out, numbered)
+}
+
+// A block that is renumbered.
+fn put_moved(place: u64, old: u64, new: u64, out: &mut [u8], at: usize) -> usize
+    ensures { λ r. ⌜ Puts (entryText (moved place old new)) (now (out .entry)) at r (now (out .exit)) ⌝ }
+{
+    let placed = put_block(place, out, at);
+    let said = put(b" renumbered ", out, placed);
+    let from = put_decimal(old, out, said);
+    let to = put(b" to ", out, from);
+    let numbered = put_decimal(new, out, to);
+    put(b"\n", out, numbered)
+}
+
+// A block that is kept: nothing where it has its old number.
+pub fn put_kept(place: u64, old: u64, new: u64, out: &mut [u8], at: usize) -> usize
+    ensures { λ r. ⌜ Puts (reportText (keptEntries place old new)) (now (out .entry)) at r (now (out .exit)) ⌝ }
+{
+    if old == new {
+        return put(b"", out, at);
+    }
+    put_moved(place, old, new, out, at)
+}
+
+// The bytes behind the last whole block.
+fn put_stray(count: u64, out: &mut [u8], at: usize) -> usize
+    ensures { λ r. ⌜ Puts (entryText (stray count)) (now (out .entry)) at r (now (out .exit)) ⌝ }
+{
+    let counted = put_decimal(count, out, at);
+    put(b" stray bytes\n", out, counted)
+}
+
+// So many bytes that are not kept: a block with its fault, or what is no whole block.
+pub fn put_left(place: u64, size: u64, fault: u8, out: &mut [u8], at: usize) -> usize
+    ensures { λ r. ⌜ Puts (reportText (leftEntries place size (numbered fault))) (now (out .entry)) at r (now (out .exit)) ⌝ }
+{
+    if size < 512 {
+        return put_stray(size, out, at);
+    }
+    put_dropped(place, fault, out, at)
+}
