@@ -1,10 +1,10 @@
--- Any two results that a contract allows for one input coincide: the law of `check_refusals`, cited for each public function of this crate.
+-- Any two results that a contract allows for one input coincide: the law of `law_results`, cited for each public function of this crate.
 use mathlib.Core.Path.{_≡_, refl, ap}
 use mathlib.Core.Bool.{cond}
 use Prim.Native.Nat.{ℕ}
 use lib.Dec.{eqb}
-use Rattle.check_refusals.specs.Refusals.{Fault, numberOf, Verdict, accepted, refused}
-use Rattle.check_refusals.proofs.Determined.{Determined, coincide, itself}
+use Rattle.check_verdicts.specs.Verdicts.{Fault, numberOf, Verdict, accepted, refused}
+use Rattle.law_results.proofs.Determined.{Determined, coincide, itself}
 use Rattle.block_check.specs.Told.{blockFault, blockSays}
 use Rattle.block_check.specs.declared.check.BlockRefusal.{BlockRefusal}
 use Rattle.block_check.specs.declared.check.BlockRefusal.the-variants.{Length, Sums, Layout, Record}

@@ -12,9 +12,8 @@ use lib.ListN.{length, take, length-take, length-drop}
 use Rattle.law_lists.specs.Places.{part}
 use Rattle.law_lists.proofs.Every.{and-left, and-right}
 use Rattle.law_lists.proofs.Parts.{part-of-first}
-use Rattle.check_refusals.specs.Refusals.{Fault, Verdict, numbered, accepted, refused, check, onAccepted}
-use Rattle.check_refusals.proofs.Checks.{check-by}
-use Rattle.check_refusals.proofs.Sides.{not-accepted}
+use Rattle.check_verdicts.specs.Verdicts.{Fault, Verdict, numbered, accepted, refused, check, onAccepted}
+use Rattle.check_verdicts.proofs.Verdicts.{check-by, not-accepted}
 use Rattle.block_check.specs.Blocks.{countOf, countIn, recordsIn, sumsRight, headerRight, numberRight, fillRight, soundRecords, blockBytes, blockVerdict, readVerdict, writeVerdict}
 use Rattle.block_check.specs.Told.{countSaid}
 use Rattle.block_check.proofs.Laid.{block-count}

@@ -8,7 +8,8 @@ use lib.ListN.{length, getD, take, replicate}
 use Rattle.law_lists.specs.Every.{every}
 use Rattle.law_lists.specs.Places.{part}
 use Rattle.law_lists.specs.Portions.{portions}
-use Rattle.check_refusals.specs.Refusals.{Verdict, accepted, check, lowestOver, isNowhere}
+use Rattle.check_verdicts.specs.Verdicts.{Verdict, accepted, check}
+use Rattle.check_limits.specs.LowestOver.{lowestOver, isNowhere}
 use Rattle.block_numbers.specs.Words.{wordAt, wordBytes}
 use Rattle.block_numbers.specs.Sums.{sumsOf}
 use Rattle.block_record.specs.RecordBytes.{soundRecord}

@@ -1,6 +1,6 @@
 -- What an answer on a block says, in the paper's numbers.
 use Prim.Native.Nat.{ℕ}
-use Rattle.check_refusals.specs.Refusals.{Fault, numbered, Verdict, accepted, refused, unlessRefused}
+use Rattle.check_verdicts.specs.Verdicts.{Fault, numbered, Verdict, accepted, refused, unlessRefused}
 use Rattle.block_check.specs.declared.check.BlockRefusal.{BlockRefusal}
 use Rattle.block_check.specs.declared.check.BlockRefusal.the-variants.{Length, Sums, Layout, Record}
 use Rattle.block_check.specs.declared.check.BlockAnswer.{BlockAnswer}

@@ -1,15 +1,15 @@
 // The checks of a block, in the order of refusals 9 to 12. Each part has a test of its own: its sums, its
 // header apart from its number, its number, its fill and its records.
-use block_numbers::least;
+use law_numbers::least;
 use block_numbers::sums_of;
 use block_numbers::word_of;
 use block_record::is_sound;
-use check_refusals::none_over;
+use check_limits::none_over;
 ghost use mathlib.Core.Path.{_≡_};
 ghost use mathlib.Core.Bool.{not};
 ghost use Prim.Native.Nat.{_≤_};
 ghost use lib.ListN.{length};
-ghost use Rattle.check_refusals.specs.Refusals.{numberOf, accepted, onAccepted, check};
+ghost use Rattle.check_verdicts.specs.Verdicts.{numberOf, accepted, onAccepted, check};
 ghost use Rattle.block_check.specs.Blocks.{countOf, countIn, recordsIn, sumsRight, headerRight, numberRight, fillRight, soundRecords, blockVerdict, readVerdict};
 ghost use Rattle.block_check.specs.Told.{blockFault, blockSays};
 

@@ -1,7 +1,7 @@
 // The numbers of a block that are wider than a byte: two bytes as a number, little end first, and the
 // two sums that guard a block. It knows nothing of records.
+use law_numbers::least;
 ghost use mathlib.Core.Path.{_≡_};
-ghost use Prim.Native.Nat.{min};
 ghost use lib.ListN.{take};
 ghost use Rattle.block_numbers.specs.Words.{wordOf};
 ghost use Rattle.block_numbers.specs.Sums.{sumsOf};
@@ -11,13 +11,6 @@ pub fn word_of(low: u8, high: u8) -> u16
     ensures { λ r. ⌜ r ≡ wordOf low high ⌝ }
 {
     low as u16 + 256 * (high as u16)
-}
-
-// The lesser of two numbers.
-pub fn least(a: usize, b: usize) -> usize
-    ensures { λ r. ⌜ r ≡ min a b ⌝ }
-{
-    if a < b { a } else { b }
 }
 
 // The two sums, each modulo 65521.

@@ -1,5 +1,5 @@
--- Any two results that a contract allows for one input coincide: the law of `check_refusals`, cited for the public function of this crate.
-use Rattle.check_refusals.proofs.Determined.{Determined, itself}
+-- Any two results that a contract allows for one input coincide: the law of `law_results`, cited for the public function of this crate.
+use Rattle.law_results.proofs.Determined.{Determined, itself}
 use Rattle.block_record.proofs.is_sound.Kinds as is-sound-kinds
 use Rattle.block_record.proofs.is_sound.Reads as is-sound-reads
 

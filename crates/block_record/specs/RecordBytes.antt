@@ -5,7 +5,8 @@ use Prim.Native.Nat.{ℕ}
 use lib.Dec.{eqb}
 use lib.ListN.{length, getD}
 use Rattle.law_lists.specs.Places.{part}
-use Rattle.check_refusals.specs.Refusals.{Verdict, codeChecks, unlessRefused}
+use Rattle.check_verdicts.specs.Verdicts.{Verdict, unlessRefused}
+use Rattle.check_side.specs.Sides.{codeChecks}
 use Rattle.cost_call.specs.Records.{Fields, costOfFields}
 use Rattle.block_numbers.specs.Words.{wordAt}
 

@@ -1,8 +1,8 @@
 // A record of a narration: 24 bytes, in memory as in a file. It is sound if document 01's limits hold of
 // its numbers and its bits are what its side data cost, by the checks that the calls have.
 use block_numbers::word_of;
-use check_refusals::SideAnswer;
-use check_refusals::check_codes;
+use check_side::SideAnswer;
+use check_side::check_codes;
 use cost_call::CostAnswer;
 use cost_call::cost;
 ghost use mathlib.Core.Path.{_≡_};

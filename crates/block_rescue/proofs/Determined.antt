@@ -1,10 +1,10 @@
--- Any two results that a contract allows for one input coincide: the law of `check_refusals`, cited for each public function of this crate. What is
+-- Any two results that a contract allows for one input coincide: the law of `law_results`, cited for each public function of this crate. What is
 -- left in the buffer coincides too.
 use mathlib.Core.Path.{_≡_, refl, ap}
 use mathlib.Core.List.{List}
 use Prim.Native.Nat.{ℕ}
-use Rattle.check_refusals.specs.Refusals.{Verdict, accepted, refused}
-use Rattle.check_refusals.proofs.Determined.{Determined, DeterminedWith, coincide, itself}
+use Rattle.check_verdicts.specs.Verdicts.{Verdict, accepted, refused}
+use Rattle.law_results.proofs.Determined.{Determined, DeterminedWith, coincide, itself}
 use Rattle.block_check.proofs.Determined.{refusalBack, refusal-back}
 use Rattle.block_rescue.specs.Rescue.{rescueSays}
 use Rattle.block_rescue.specs.declared.RescueAnswer.{RescueAnswer}

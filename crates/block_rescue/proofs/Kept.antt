@@ -9,8 +9,8 @@ use borrow.Author.Tests.{lt-ltb, le-ltb, eq-eqb}
 use lib.Dec.{ltb}
 use lib.ListN.{length, take, drop, length-append, length-take, length-drop}
 use lib.Seq.{getD-take}
-use Rattle.check_refusals.specs.Refusals.{Fault, Verdict, numbered, accepted, refused, check}
-use Rattle.check_refusals.proofs.Sides.{not-accepted}
+use Rattle.check_verdicts.specs.Verdicts.{Fault, Verdict, numbered, accepted, refused, check}
+use Rattle.check_verdicts.proofs.Verdicts.{not-accepted}
 use Rattle.block_check.specs.Blocks.{numberIn, recordsIn, sumsRight, headerRight, fillRight, soundRecords, blockVerdict, readVerdict}
 use Rattle.block_check.proofs.Verdicts.{AcceptedBlock, accepted-block, some-bytes}
 use Rattle.block_rescue.specs.Rescue.{keptChecks, keptVerdict, renumbered, rescueVerdict}

@@ -6,7 +6,7 @@ use Prim.Native.Nat.{ℕ}
 use lib.Dec.{ltb}
 use lib.ListN.{length}
 use Rattle.law_lists.specs.Places.{part}
-use Rattle.check_refusals.specs.Refusals.{Verdict, accepted, refused, check, unlessRefused, onAccepted}
+use Rattle.check_verdicts.specs.Verdicts.{Verdict, accepted, refused, check, unlessRefused, onAccepted}
 use Rattle.block_numbers.specs.Words.{wordBytes}
 use Rattle.block_check.specs.Blocks.{numberIn, recordsIn, sumBytes, sumsRight, headerRight, fillRight, soundRecords}
 use Rattle.block_check.specs.Told.{blockFault}

@@ -8,7 +8,7 @@ use block_write::with_sums;
 ghost use mathlib.Core.Path.{_≡_};
 ghost use mathlib.Core.List.{_++_};
 ghost use lib.ListN.{length, take, replicate};
-ghost use Rattle.check_refusals.specs.Refusals.{onAccepted};
+ghost use Rattle.check_verdicts.specs.Verdicts.{onAccepted};
 ghost use Rattle.block_numbers.specs.Words.{wordBytes};
 ghost use Rattle.block_check.specs.Blocks.{numberIn};
 ghost use Rattle.block_rescue.specs.Rescue.{keptVerdict, rescueSays, RescueDone};

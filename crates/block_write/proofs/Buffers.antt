@@ -2,7 +2,7 @@
 use mathlib.Core.Path.{_≡_}
 use mathlib.Core.List.{List}
 use Prim.Native.Nat.{ℕ}
-use Rattle.check_refusals.specs.Refusals.{Verdict, unlessRefused}
+use Rattle.check_verdicts.specs.Verdicts.{Verdict, unlessRefused}
 use Rattle.block_write.specs.BlockCalls.{laidOver}
 
 pub as-told : (v w : Verdict (List ℕ)) (found left : List ℕ) → v ≡ w → left ≡ unlessRefused w (λ given. laidOver given found) found

@@ -1,8 +1,8 @@
--- Any two results that a contract allows for one input coincide: the law of `check_refusals`, cited for each public function of this crate. What they
+-- Any two results that a contract allows for one input coincide: the law of `law_results`, cited for each public function of this crate. What they
 -- leave in the buffer coincides too.
 use mathlib.Core.List.{List}
 use Prim.Native.Nat.{ℕ}
-use Rattle.check_refusals.proofs.Determined.{Determined, DeterminedWith, coincide, itself}
+use Rattle.law_results.proofs.Determined.{Determined, DeterminedWith, coincide, itself}
 use Rattle.block_check.specs.Told.{blockSays}
 use Rattle.block_check.proofs.Determined.{answerBack, answer-back}
 use Rattle.block_write.proofs.read.read_block.Kinds as read-block-kinds

@@ -3,7 +3,7 @@ use mathlib.Core.Path.{_≡_}
 use mathlib.Core.List.{List, _++_}
 use Prim.Native.Nat.{ℕ}
 use lib.ListN.{length, drop}
-use Rattle.check_refusals.specs.Refusals.{Verdict, unlessRefused, onAccepted}
+use Rattle.check_verdicts.specs.Verdicts.{Verdict, unlessRefused, onAccepted}
 use Rattle.block_check.specs.Told.{blockSays}
 use Rattle.block_check.specs.declared.check.BlockAnswer.{BlockAnswer}
 

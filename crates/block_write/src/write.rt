@@ -3,7 +3,7 @@ use crate::buffer::lay;
 use block_check::BlockAnswer;
 use block_check::BlockRefusal;
 use block_check::all_sound;
-use block_numbers::least;
+use law_numbers::least;
 use block_numbers::sums_of;
 ghost use mathlib.Core.Path.{_≡_};
 ghost use mathlib.Core.List.{_++_};

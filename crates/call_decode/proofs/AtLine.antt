@@ -7,7 +7,7 @@ use lib.Ieee.{Float}
 use lib.ListN.{length, take, drop, length-append, length-drop, take-append-drop}
 use lib.Seq.{length-take-le, take-at, drop-at}
 use Rattle.law_lists.specs.Counted.{counted}
-use Rattle.row_bands.specs.declared.row.Row.{Row}
+use Rattle.row_bands.specs.declared.Row.{Row}
 use Rattle.row_bands.proofs.Bands.{SoundRow}
 use Rattle.check_line.proofs.Calls.{Ready}
 use Rattle.lattice_lines.specs.Lattice.{atRest}

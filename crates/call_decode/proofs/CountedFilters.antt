@@ -7,7 +7,7 @@ use lib.Ieee.{Float}
 use lib.ListN.{getD, take, drop, length}
 use Rattle.law_lists.specs.Counted.{counted}
 use Rattle.law_lists.proofs.Counted.{none-of-them, one-of-them, two-of-them}
-use Rattle.row_bands.specs.declared.row.Row.{Row}
+use Rattle.row_bands.specs.declared.Row.{Row}
 use Rattle.row_bands.proofs.Bands.{SoundRow}
 use Rattle.lattice_lines.specs.Lattice.{atRest}
 use Rattle.lattice_decoder.specs.DecoderLattice.{lineDecoded}

@@ -4,11 +4,12 @@ use mathlib.Core.List.{List}
 use Prim.Native.Nat.{ℕ}
 use lib.Ieee.{Float}
 use lib.ListN.{length}
-use Rattle.check_refusals.specs.Refusals.{Fault, accepted, refused, noFault, sideChecks}
-use Rattle.row_bands.specs.Durations.{durationOf}
+use Rattle.check_verdicts.specs.Verdicts.{Fault, accepted, refused, noFault}
+use Rattle.check_side.specs.Sides.{sideChecks}
+use Rattle.row_durations.specs.Durations.{durationOf}
 use Rattle.row_bands.specs.Bands.{rowOf}
 use Rattle.check_frame.specs.Frames.{frameOf}
-use Rattle.row_bands.specs.declared.row.Row.{Row}
+use Rattle.row_bands.specs.declared.Row.{Row}
 use Rattle.check_frame.proofs.Frames.{refused-frame, passed-frame}
 use Rattle.call_decode.specs.Decoder.{decodeChecks, spectrumDecoded, rowDecoded}
 

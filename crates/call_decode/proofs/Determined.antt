@@ -1,10 +1,11 @@
--- Any two results that a contract allows for one input coincide: the law of `check_refusals`, cited for `decode`, `save` and `restart`, and with it
+-- Any two results that a contract allows for one input coincide: the law of `law_results`, cited for `decode`, `save` and `restart`, and with it
 -- what is left in the lists that were lent. The logic has one NaN, so of a line or a state that is a NaN the bits are left open.
 use mathlib.Core.Path.{_≡_, refl, ap}
 use mathlib.Core.List.{List}
 use lib.Ieee.{Float}
 use Rattle.check_refusals.proofs.Eight.{of-eight}
-use Rattle.check_refusals.proofs.Determined.{DeterminedWith, coincide, itself, of-parts, answerBack}
+use Rattle.law_results.proofs.Determined.{DeterminedWith, coincide, itself, of-parts}
+use Rattle.check_refusals.proofs.Determined.{answerBack}
 use Rattle.check_line.proofs.Determined.{lineAnswerBack, line-refusal-back}
 use Rattle.call_decode.specs.Decoder.{decodeSays}
 use Rattle.call_decode.specs.declared.DecodeAnswer.{DecodeAnswer}

@@ -4,10 +4,10 @@ use mathlib.Core.List.{List}
 use Prim.Native.Nat.{ℕ}
 use lib.Ieee.{Float}
 use lib.ListN.{length}
-use Rattle.check_refusals.specs.Refusals.{Fault, refused, unlessRefused, noFault}
-use Rattle.row_bands.specs.Durations.{durationOf}
+use Rattle.check_verdicts.specs.Verdicts.{Fault, refused, unlessRefused, noFault}
+use Rattle.row_durations.specs.Durations.{durationOf}
 use Rattle.row_bands.specs.Bands.{rowOf}
-use Rattle.row_bands.specs.declared.row.Row.{Row}
+use Rattle.row_bands.specs.declared.Row.{Row}
 use Rattle.check_line.specs.Calls.{lineCallChecks}
 use Rattle.check_line.proofs.Calls.{Ready, ready, call-accepted}
 use Rattle.call_decode.specs.Decoder.{rowDecoded, decodeChecks, spectrumDecoded}

@@ -5,10 +5,10 @@ use mathlib.Core.List.{List}
 use Prim.Native.Nat.{ℕ}
 use lib.Ieee.{Float}
 use lib.ListN.{length}
-use Rattle.check_refusals.specs.Refusals.{sideChecks}
-use Rattle.row_bands.specs.Durations.{durationOf}
+use Rattle.check_side.specs.Sides.{sideChecks}
+use Rattle.row_durations.specs.Durations.{durationOf}
 use Rattle.row_bands.specs.Bands.{rowOf, noBand}
-use Rattle.row_bands.specs.declared.row.Row.{Row}
+use Rattle.row_bands.specs.declared.Row.{Row}
 use Rattle.lattice_lines.specs.Lattice.{atRest}
 use Rattle.lattice_decoder.specs.DecoderLattice.{lineDecoded}
 use Rattle.lattice_rows.proofs.Filters.{acting, no-lines}

@@ -7,10 +7,11 @@ use lib.Ieee.{Float, nan}
 use lib.ListN.{length, getD}
 use Rattle.law_lists.specs.Counted.{counted}
 use Rattle.law_lists.proofs.Counted.{counted-length}
-use Rattle.check_refusals.specs.Refusals.{Verdict, accepted, noFault, sideChecks}
-use Rattle.row_bands.specs.Durations.{numbersOf, durationOf}
+use Rattle.check_verdicts.specs.Verdicts.{Verdict, accepted, noFault}
+use Rattle.check_side.specs.Sides.{sideChecks}
+use Rattle.row_durations.specs.Durations.{numbersOf, durationOf}
 use Rattle.row_bands.specs.Bands.{rowOf, bandOf, lastStop, inside}
-use Rattle.row_bands.specs.declared.row.Row.{Row}
+use Rattle.row_bands.specs.declared.Row.{Row}
 use Rattle.row_bands.proofs.Bands.{SoundRow}
 use Rattle.row_bands.proofs.Apart.{Outside}
 use Rattle.check_frame.proofs.Frames.{accepted-row}

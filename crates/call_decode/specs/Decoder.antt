@@ -5,11 +5,12 @@ use Prim.Native.Nat.{ℕ}
 use lib.ListN.{length}
 use lib.Ieee.{Float}
 use Rattle.law_lists.specs.Counted.{counted}
-use Rattle.check_refusals.specs.Refusals.{Verdict, refused, unlessRefused, noFault, says}
+use Rattle.check_verdicts.specs.Verdicts.{Verdict, refused, unlessRefused, noFault}
+use Rattle.check_refusals.specs.Refusals.{says}
 use Rattle.index_choice.specs.Quantizer.{coefficientOf}
-use Rattle.row_bands.specs.Durations.{durationOf}
+use Rattle.row_durations.specs.Durations.{durationOf}
 use Rattle.row_bands.specs.Bands.{rowOf}
-use Rattle.row_bands.specs.declared.row.Row.{Row}
+use Rattle.row_bands.specs.declared.Row.{Row}
 use Rattle.check_line.specs.Calls.{callChecks}
 use Rattle.lattice_decoder.specs.DecoderLattice.{lineDecoded}
 use Rattle.lattice_rows.specs.Filters.{Filter, filterWith, rowFiltered}

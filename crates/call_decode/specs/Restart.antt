@@ -6,10 +6,10 @@ use Prim.Native.Nat.{ℕ}
 use lib.Ieee.{Float}
 use lib.ListN.{length, take, drop}
 use Rattle.law_lists.specs.Counted.{counted}
-use Rattle.check_refusals.specs.Refusals.{Verdict, refused, unlessRefused, noFault}
-use Rattle.row_bands.specs.Durations.{durationOf}
+use Rattle.check_verdicts.specs.Verdicts.{Verdict, refused, unlessRefused, noFault}
+use Rattle.row_durations.specs.Durations.{durationOf}
 use Rattle.row_bands.specs.Bands.{rowOf}
-use Rattle.row_bands.specs.declared.row.Row.{Row}
+use Rattle.row_bands.specs.declared.Row.{Row}
 use Rattle.check_line.specs.Calls.{lineCallChecks, lineSays}
 use Rattle.lattice_lines.specs.Lattice.{atRest}
 use Rattle.lattice_decoder.specs.DecoderLattice.{lineDecoded}

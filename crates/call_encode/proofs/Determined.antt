@@ -1,10 +1,11 @@
--- Any two results that a contract allows for one input coincide: the law of `check_refusals`, cited for `encode`, and with it what is left in the
+-- Any two results that a contract allows for one input coincide: the law of `law_results`, cited for `encode`, and with it what is left in the
 -- lines that were lent. The logic has one NaN, so of a line that is a NaN the bits are left open.
 use mathlib.Core.Path.{_≡_, refl, ap}
 use mathlib.Core.List.{List}
 use lib.Ieee.{Float}
 use Rattle.check_refusals.proofs.Eight.{of-eight}
-use Rattle.check_refusals.proofs.Determined.{DeterminedWith, of-parts, coincide, itself, answerBack}
+use Rattle.law_results.proofs.Determined.{DeterminedWith, of-parts, coincide, itself}
+use Rattle.check_refusals.proofs.Determined.{answerBack}
 use Rattle.call_encode.specs.Encoder.{encodeSays}
 use Rattle.side_data.specs.declared.SideData.{SideData}
 use Rattle.call_encode.specs.declared.Encoded.{Encoded}

@@ -7,10 +7,10 @@ use Prim.Native.Nat.{ℕ, _≤_}
 use native.Mathlib.Omega.{arith}
 use lib.Ieee.{Float}
 use lib.ListN.{length}
-use Rattle.check_refusals.specs.Refusals.{Fault, Verdict, accepted, refused, bitsIn, itsBits}
-use Rattle.row_bands.specs.Durations.{durationOf}
+use Rattle.check_verdicts.specs.Verdicts.{Fault, Verdict, accepted, refused, bitsIn, itsBits}
+use Rattle.row_durations.specs.Durations.{durationOf}
 use Rattle.row_bands.specs.Bands.{rowOf}
-use Rattle.row_bands.specs.declared.row.Row.{Row}
+use Rattle.row_bands.specs.declared.Row.{Row}
 use Rattle.check_frame.specs.Frames.{frameOf}
 use Rattle.check_frame.proofs.Frames.{refused-frame, passed-frame}
 use Rattle.side_data.specs.Side.{bitsOf, noSide}

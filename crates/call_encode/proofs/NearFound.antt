@@ -6,9 +6,9 @@ use lib.Dec.{T}
 use lib.ListN.{length, getD}
 use lib.Ieee.{Float, nan, binary32, fits}
 use Rattle.row_bands.specs.Bands.{rowOf}
-use Rattle.row_bands.specs.declared.duration.Duration.{Duration}
-use Rattle.row_bands.specs.declared.row.Band.{Band}
-use Rattle.row_bands.specs.declared.row.Row.{Row}
+use Rattle.row_durations.specs.declared.Duration.{Duration}
+use Rattle.row_bands.specs.declared.Band.{Band}
+use Rattle.row_bands.specs.declared.Row.{Row}
 use Rattle.row_bands.proofs.Bands.{SoundRow}
 use Rattle.side_data.specs.Quantized.{absent}
 use Rattle.side_data.proofs.Limits.{absent-within}

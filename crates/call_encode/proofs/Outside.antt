@@ -9,11 +9,11 @@ use lib.Ieee.{Float, nan}
 use lib.ListN.{length, getD}
 use lib.Seq.{ext-getD}
 use Rattle.law_lists.specs.Places.{part}
-use Rattle.check_refusals.specs.Refusals.{Verdict, accepted}
-use Rattle.row_bands.specs.Durations.{numbersOf, durationOf}
+use Rattle.check_verdicts.specs.Verdicts.{Verdict, accepted}
+use Rattle.row_durations.specs.Durations.{numbersOf, durationOf}
 use Rattle.row_bands.specs.Bands.{rowOf, bandOf, lastStop, inside}
-use Rattle.row_bands.specs.declared.row.Band.{Band}
-use Rattle.row_bands.specs.declared.row.Row.{Row}
+use Rattle.row_bands.specs.declared.Band.{Band}
+use Rattle.row_bands.specs.declared.Row.{Row}
 use Rattle.row_bands.proofs.Bands.{Fits, SoundRow, Cut, row-cut}
 use Rattle.row_bands.proofs.Apart.{Outside, inside-length, inside-at}
 use Rattle.check_frame.specs.Frames.{frameChecks}

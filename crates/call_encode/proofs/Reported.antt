@@ -8,15 +8,17 @@ use lib.Dec.{ltb}
 use borrow.Author.Tests.{le-ltb, eq-eqb}
 use lib.Ieee.{Float}
 use lib.ListN.{length, length-append}
-use Rattle.check_refusals.specs.Refusals.{Verdict, accepted, check, sideChecks, lowestOver, SoundSide}
-use Rattle.check_refusals.specs.declared.Over.the-variants.{Nowhere}
+use Rattle.check_verdicts.specs.Verdicts.{Verdict, accepted, check}
+use Rattle.check_side.specs.Sides.{sideChecks, SoundSide}
+use Rattle.check_limits.specs.LowestOver.{lowestOver}
+use Rattle.check_limits.specs.declared.Over.the-variants.{Nowhere}
 use Rattle.index_choice.specs.Quantizer.{indexOf}
 use Rattle.cost_call.specs.Cost.{costOf, countedBits}
 use Rattle.cost_call.proofs.Costs.{counted-at-most}
 use Rattle.index_choice.proofs.Indices.{index-at-most}
-use Rattle.row_bands.specs.Durations.{durationOf, weightingOf, numbersOf, DurationNumbers}
-use Rattle.row_bands.specs.declared.row.Band.{Band}
-use Rattle.row_bands.specs.declared.row.Row.{Row}
+use Rattle.row_durations.specs.Durations.{durationOf, weightingOf, numbersOf, DurationNumbers}
+use Rattle.row_bands.specs.declared.Band.{Band}
+use Rattle.row_bands.specs.declared.Row.{Row}
 use Rattle.shape_frame.specs.Analysis.{reflectionsOf}
 use Rattle.side_data.specs.Quantized.{quantizedOf, absent}
 use Rattle.shape_frame.specs.FrameSide.{hasSecond, filterOf, secondOf, sideOf}

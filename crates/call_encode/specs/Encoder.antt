@@ -6,11 +6,12 @@ use mathlib.Core.List.{List}
 use Prim.Native.Nat.{ℕ, _≤_}
 use lib.ListN.{length}
 use lib.Ieee.{Float}
-use Rattle.check_refusals.specs.Refusals.{Verdict, accepted, refused, unlessRefused, onAccepted, IfAccepted, bitsIn, itsBits, says}
+use Rattle.check_verdicts.specs.Verdicts.{Verdict, accepted, refused, unlessRefused, onAccepted, IfAccepted, bitsIn, itsBits}
+use Rattle.check_refusals.specs.Refusals.{says}
 use Rattle.check_refusals.specs.declared.Refusal.{Refusal}
-use Rattle.row_bands.specs.Durations.{numbersOf, durationOf, weightingOf}
+use Rattle.row_durations.specs.Durations.{numbersOf, durationOf, weightingOf}
 use Rattle.row_bands.specs.Bands.{rowOf}
-use Rattle.row_bands.specs.declared.row.Row.{Row}
+use Rattle.row_bands.specs.declared.Row.{Row}
 use Rattle.check_frame.specs.Frames.{frameChecks}
 use Rattle.side_data.specs.Side.{bitsOf, noSide}
 use Rattle.side_data.specs.declared.SideData.{SideData}

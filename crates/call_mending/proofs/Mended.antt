@@ -10,10 +10,10 @@ use lib.ListN.{length, take, drop}
 use lib.Seq.{length-take-le, take-at, drop-at}
 use Rattle.law_lists.specs.Counted.{counted}
 use Rattle.law_lists.proofs.Counted.{none-of-them, one-of-them, two-of-them}
-use Rattle.check_refusals.specs.Refusals.{noFault}
-use Rattle.row_bands.specs.Durations.{durationOf}
+use Rattle.check_verdicts.specs.Verdicts.{noFault}
+use Rattle.row_durations.specs.Durations.{durationOf}
 use Rattle.row_bands.specs.Bands.{rowOf, bandOf}
-use Rattle.row_bands.specs.declared.row.Row.{Row}
+use Rattle.row_bands.specs.declared.Row.{Row}
 use Rattle.row_bands.proofs.Bands.{SoundRow}
 use Rattle.check_line.specs.Calls.{lineCallChecks}
 use Rattle.check_line.proofs.Calls.{ready}

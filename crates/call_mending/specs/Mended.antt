@@ -4,7 +4,7 @@ use mathlib.Core.List.{List}
 use Prim.Native.Nat.{ℕ, _*_, _<_}
 use lib.Ieee.{Float}
 use lib.ListN.{length, getD, take, drop}
-use Rattle.row_bands.specs.Durations.{durationOf}
+use Rattle.row_durations.specs.Durations.{durationOf}
 use Rattle.row_bands.specs.Bands.{rowOf, bandOf}
 use Rattle.lattice_rows.specs.Split.{Begins}
 use Rattle.call_decode.specs.Decoder.{spectrumDecoded}

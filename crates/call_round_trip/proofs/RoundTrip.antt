@@ -9,11 +9,11 @@ use lib.Ieee.{Float}
 use lib.ListN.{length, take, drop}
 use lib.Seq.{take-at, drop-at, take-all}
 use Rattle.law_lists.proofs.Counted.{one-of-them, two-of-them}
-use Rattle.check_refusals.specs.Refusals.{accepted, noFault}
-use Rattle.check_refusals.proofs.Sides.{passed-by-checks}
-use Rattle.row_bands.specs.Durations.{durationOf}
+use Rattle.check_verdicts.specs.Verdicts.{accepted, noFault}
+use Rattle.check_verdicts.proofs.Verdicts.{passed-by-checks}
+use Rattle.row_durations.specs.Durations.{durationOf}
 use Rattle.row_bands.specs.Bands.{rowOf}
-use Rattle.row_bands.specs.declared.row.Row.{Row}
+use Rattle.row_bands.specs.declared.Row.{Row}
 use Rattle.check_frame.specs.Frames.{frameChecks}
 use Rattle.check_frame.proofs.Frames.{frames-settle}
 use Rattle.lattice_decoder.specs.DecoderLattice.{lineDecoded}

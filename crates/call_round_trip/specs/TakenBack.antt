@@ -6,8 +6,8 @@ use Prim.Native.Nat.{ℕ}
 use lib.Ieee.{Float}
 use lib.ListN.{length, take}
 use Rattle.law_lists.specs.Counted.{counted}
-use Rattle.check_refusals.specs.Refusals.{noFault}
-use Rattle.row_bands.specs.Durations.{durationOf}
+use Rattle.check_verdicts.specs.Verdicts.{noFault}
+use Rattle.row_durations.specs.Durations.{durationOf}
 use Rattle.row_bands.specs.Bands.{rowOf}
 use Rattle.lattice_decoder.specs.DecoderLattice.{lineDecoded}
 use Rattle.lattice_rows.specs.Filters.{Filter, rowFiltered}

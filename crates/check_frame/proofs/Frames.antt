@@ -1,18 +1,17 @@
 -- Laws of a frame that checks 1 to 3 find no fault with: its row is the table's, and the bands lie within its lines.
 use mathlib.Core.Path.{_≡_, refl, sym, _∙_, ap}
 use mathlib.Core.Bool.{Bool, true, false, _||_}
-use Prim.Native.Nat.{ℕ, zero, suc, _≤_}
+use Prim.Native.Nat.{ℕ, _≤_}
 use native.Mathlib.Omega.{arith}
 use lib.Dec.{ltb}
 use borrow.Author.Tests.{ltb-false}
-use Rattle.check_refusals.specs.Refusals.{Fault, numbered, Verdict, accepted, refused, unlessRefused, noFault, check}
-use Rattle.check_refusals.proofs.Checks.{check-by}
-use Rattle.check_refusals.proofs.Sides.{settle, not-accepted, refused-by-checks, passed-by-checks}
-use Rattle.row_bands.specs.Durations.{durationOf, numbersOf}
-use Rattle.row_bands.specs.Bands.{rowOf, bandOf, noBand, lastStop}
-use Rattle.row_bands.specs.declared.row.Row.{Row}
-use Rattle.row_bands.proofs.Bands.{Fits, SoundRow, row-cut, cut-fits}
-use Rattle.check_frame.specs.Frames.{frameChecks, frameOf, askedBand}
+use Rattle.check_verdicts.specs.Verdicts.{Fault, numbered, Verdict, accepted, refused, noFault, check}
+use Rattle.check_verdicts.proofs.Verdicts.{check-by, settle, not-accepted, refused-by-checks, passed-by-checks}
+use Rattle.row_durations.specs.Durations.{durationOf, numbersOf}
+use Rattle.row_bands.specs.Bands.{rowOf, lastStop}
+use Rattle.row_bands.specs.declared.Row.{Row}
+use Rattle.row_bands.proofs.Bands.{SoundRow, row-cut, cut-fits}
+use Rattle.check_frame.specs.Frames.{frameChecks, frameOf}
 
 -- checks 1 to 3 answer the same whatever follows them
 pub frames-settle : {A : Type 0} (duration bandwidth lines : ℕ) (next : Verdict A)
@@ -132,16 +131,3 @@ accepted-row {A} duration bandwidth lines next a e =
     cases : (v : Verdict (Unit {0})) → settle v next ≡ accepted a → settle v (accepted own) ≡ accepted own
     cases (accepted u) e = refl
     cases (refused fault) e = not-accepted e
-
-none-fits : (lines : ℕ) → Fits noBand lines
-none-fits lines = record { order = omega arith; end = omega arith }
-
--- and so does the band that a caller asks for
-pub asked-fits : (duration bandwidth filter lines : ℕ) → Fits (askedBand duration bandwidth filter lines) lines
-asked-fits duration bandwidth filter lines = cases (frameOf duration bandwidth lines) refl filter
-  where
-    cases : (v : Verdict Row) → frameOf duration bandwidth lines ≡ v → (filter : ℕ) → Fits (unlessRefused v (λ row. bandOf row filter) noBand) lines
-    cases (accepted row) e zero = sound-row duration bandwidth lines row e .first-fits
-    cases (accepted row) e (suc zero) = sound-row duration bandwidth lines row e .second-fits
-    cases (accepted row) e (suc (suc filter)) = none-fits lines
-    cases (refused fault) e filter = none-fits lines

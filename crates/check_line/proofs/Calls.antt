@@ -6,11 +6,13 @@ use Prim.Native.Nat.{ℕ, _≤_}
 use native.Mathlib.Omega.{arith}
 use lib.Dec.{ltb, eqb}
 use borrow.Author.Tests.{ltb-false, eqb-true}
-use Rattle.check_refusals.specs.Refusals.{Fault, Verdict, accepted, refused, noFault, check, sideChecks, SoundSide}
-use Rattle.check_refusals.proofs.Sides.{settle, not-accepted, sides-settle, sound-side}
-use Rattle.row_bands.specs.Durations.{durationOf}
+use Rattle.check_verdicts.specs.Verdicts.{Fault, Verdict, accepted, refused, noFault, check}
+use Rattle.check_side.specs.Sides.{sideChecks, SoundSide}
+use Rattle.check_verdicts.proofs.Verdicts.{settle, not-accepted}
+use Rattle.check_side.proofs.Sides.{sides-settle, sound-side}
+use Rattle.row_durations.specs.Durations.{durationOf}
 use Rattle.row_bands.specs.Bands.{rowOf, lastStop}
-use Rattle.row_bands.specs.declared.row.Row.{Row}
+use Rattle.row_bands.specs.declared.Row.{Row}
 use Rattle.row_bands.proofs.Bands.{SoundRow}
 use Rattle.row_bands.proofs.Apart.{InTurn, row-in-turn}
 use Rattle.check_frame.specs.Frames.{frameChecks, frameOf}

@@ -1,4 +1,4 @@
--- Any two results that a contract allows for one input coincide: the law of `check_refusals`, cited for each public function of this crate.
+-- Any two results that a contract allows for one input coincide: the law of `law_results`, cited for each public function of this crate.
 use mathlib.Core.Path.{_≡_, refl, _∙_, ap}
 use mathlib.Core.Bool.{cond}
 use Prim.Native.Nat.{_≤_}
@@ -6,9 +6,10 @@ use native.Mathlib.Nat.{lt-irrefl}
 use native.Mathlib.Omega.{arith}
 use lib.Dec.{eqb}
 use borrow.Author.Tests.{ne-eqb}
-use Rattle.check_refusals.specs.Refusals.{Fault, numbered, placed, Verdict, accepted, refused, numberOf, says}
+use Rattle.check_verdicts.specs.Verdicts.{Fault, numbered, placed, Verdict, accepted, refused, numberOf}
+use Rattle.check_refusals.specs.Refusals.{says}
 use Rattle.check_refusals.proofs.Eight.{refusalBack, of-eight}
-use Rattle.check_refusals.proofs.Determined.{Determined, coincide}
+use Rattle.law_results.proofs.Determined.{Determined, coincide}
 use Rattle.check_line.specs.Calls.{lineSays, lineCheckSays}
 use Rattle.check_line.specs.declared.LineRefusal.{LineRefusal}
 use Rattle.check_line.specs.declared.LineRefusal.the-variants.{Call, Line, OutputLength}

@@ -3,10 +3,12 @@ use mathlib.Core.Bool.{_||_, not}
 use mathlib.Core.List.{List}
 use Prim.Native.Nat.{ℕ}
 use lib.Dec.{ltb, eqb}
-use Rattle.check_refusals.specs.Refusals.{Fault, numbered, Verdict, refused, noFault, check, says, sideChecks}
-use Rattle.row_bands.specs.Durations.{durationOf}
+use Rattle.check_verdicts.specs.Verdicts.{Fault, numbered, Verdict, refused, noFault, check}
+use Rattle.check_refusals.specs.Refusals.{says}
+use Rattle.check_side.specs.Sides.{sideChecks}
+use Rattle.row_durations.specs.Durations.{durationOf}
 use Rattle.row_bands.specs.Bands.{rowOf, lastStop}
-use Rattle.row_bands.specs.declared.row.Row.{Row}
+use Rattle.row_bands.specs.declared.Row.{Row}
 use Rattle.check_frame.specs.Frames.{frameChecks}
 use Rattle.check_line.specs.declared.LineRefusal.{LineRefusal}
 use Rattle.check_line.specs.declared.LineRefusal.the-variants.{Call, Line, OutputLength}

@@ -1,9 +1,9 @@
 // What a decode call at a line checks after refusals 1 to 7, which all decode calls have: 16 and 17.
-use check_frame::last_stop;
+use row_bands::last_stop;
 use check_refusals::Refusal;
 use row_bands::Row;
 ghost use mathlib.Core.Path.{_≡_};
-ghost use Rattle.check_refusals.specs.Refusals.{noFault};
+ghost use Rattle.check_verdicts.specs.Verdicts.{noFault};
 ghost use Rattle.check_line.specs.Calls.{lineChecks, lineCheckSays};
 
 // Why a call at a line is refused: as any decode call, by its line, which lies outside the row, or by

@@ -1,54 +1,15 @@
--- Any two results that a contract allows for one input coincide: one law, cited for each public function of every crate. A function's `Post` is
--- its `ensures` as the checker reads it off the source. A result that the contract equates with a definition says itself. An answer that is an
--- enum says the paper's numbers, and these give the answer back. There is one NaN in the logic, so a NaN result would leave its bits open.
-use mathlib.Core.Path.{_≡_, refl, sym, _∙_, ap}
-use mathlib.Core.List.{List}
-use Prim.Native.Nat.{ℕ}
-use contract.Lifetimes.{Lfts}
-use denote.Triple.Clauses.{AtExit}
-use borrow.Fn.Kind.{PK, RK}
-use borrow.Fn.Kinds.{Out, Dens, resT, endedOf}
-use Rattle.check_refusals.specs.Refusals.{Verdict, accepted, refused, sideSays}
+-- Any two results that a contract allows for one input coincide: the law of `law_results`, cited for each public function of this crate.
+use mathlib.Core.Path.{_≡_}
+use Rattle.law_results.proofs.Determined.{Determined, itself}
+use Rattle.check_verdicts.specs.Verdicts.{Verdict, accepted, refused}
 use Rattle.check_refusals.specs.declared.Refusal.{Refusal}
-use Rattle.check_refusals.specs.declared.SideAnswer.{SideAnswer}
-use Rattle.check_refusals.specs.declared.SideAnswer.the-variants.{Sound, Refused}
-use Rattle.check_refusals.proofs.Eight.{refusalBack, of-eight}
+use Rattle.check_refusals.proofs.Eight.{refusalBack}
 use Rattle.check_refusals.proofs.Refusal.number.Kinds as number-kinds
 use Rattle.check_refusals.proofs.Refusal.number.Reads as number-reads
 use Rattle.check_refusals.proofs.Refusal.place.Kinds as place-kinds
 use Rattle.check_refusals.proofs.Refusal.place.Reads as place-reads
 use Rattle.check_refusals.proofs.Refusal.found.Kinds as found-kinds
 use Rattle.check_refusals.proofs.Refusal.found.Reads as found-reads
-use Rattle.check_refusals.proofs.none_over.Kinds as none-over-kinds
-use Rattle.check_refusals.proofs.none_over.Reads as none-over-reads
-use Rattle.check_refusals.proofs.codes.check_codes.Kinds as check-codes-kinds
-use Rattle.check_refusals.proofs.codes.check_codes.Reads as check-codes-reads
-use Rattle.check_refusals.proofs.check_side.Kinds as check-side-kinds
-use Rattle.check_refusals.proofs.check_side.Reads as check-side-reads
-
--- two results that say the same, where what a result says gives the result back
-pub coincide : {A S : Type 0} (says : A → S) (back : S → A) → ((a : A) → back (says a) ≡ a) → {x y : A} {v : S} → says x ≡ v → says y ≡ v → x ≡ y
-coincide says back again {x} {y} p q = sym (again x) ∙ ap back (p ∙ sym q) ∙ again y
-
--- two results of a function that meet its contract for the same arguments
-abbrev pub Determined : (n : ℕ) (ps : List (PK n)) (r : RK n) → Out n ps r → Type 0
-Determined n ps r Post =
-    (κs : Lfts n) (a : Dens κs ps) (x y : resT r κs .Denot) (s t : AtExit (endedOf n ps r) κs) → Post κs a x s → Post κs a y t → x ≡ y
-
--- two such results, and what each leaves behind: `left` reads it off what was lent
-abbrev pub DeterminedWith : (n : ℕ) (ps : List (PK n)) (r : RK n) → Out n ps r → (L : Type 0) → ((κs : Lfts n) → AtExit (endedOf n ps r) κs → L) → Type 0
-DeterminedWith n ps r Post L left =
-    (κs : Lfts n) (a : Dens κs ps) (x y : resT r κs .Denot) (s t : AtExit (endedOf n ps r) κs) → Post κs a x s → Post κs a y t
-    → (x ≡ y) × (left κs s ≡ left κs t)
-
--- what is made of two parts, where the parts coincide
-pub of-parts : {A B C : Type 0} (f : A → B → C) {x y : A} {u v : B} → x ≡ y → u ≡ v → f x u ≡ f y v
-of-parts f {x} {y} {u} {v} p q = ap (λ a. f a u) p ∙ ap (f y) q
-
--- ---- a result that says itself
-
-pub itself : {A : Type 0} {x y v : A} → x ≡ v → y ≡ v → x ≡ y
-itself p q = coincide (λ a. a) (λ a. a) (λ a. refl) p q
 
 number : Determined 0 number-kinds.ps number-kinds.r number-reads.Post
 number κs a x y s t p q = itself p q
@@ -59,22 +20,7 @@ place κs a x y s t p q = itself p q
 found : Determined 0 found-kinds.ps found-kinds.r found-reads.Post
 found κs a x y s t p q = itself p q
 
-none-over : Determined 1 none-over-kinds.ps none-over-kinds.r none-over-reads.Post
-none-over κs a x y s t p q = itself p q
-
--- ---- an answer that says the paper's numbers
-
--- the answer back from its verdict
+-- an answer that says the paper's numbers, back from its verdict
 abbrev pub answerBack : {A R : Type 0} → (A → R) → (Refusal → R) → Verdict A → R
 answerBack accept refuse (accepted a) = accept a
 answerBack accept refuse (refused fault) = refuse (refusalBack fault)
-
-sideBack : (answer : SideAnswer) → answerBack (λ (u : Unit {0}). Sound) Refused (sideSays answer) ≡ answer
-sideBack Sound = refl
-sideBack (Refused why) = ap Refused (of-eight why .back)
-
-check-side : Determined 2 check-side-kinds.ps check-side-kinds.r check-side-reads.Post
-check-side κs a x y s t p q = coincide sideSays (answerBack (λ u. Sound) Refused) sideBack p q
-
-check-codes : Determined 0 check-codes-kinds.ps check-codes-kinds.r check-codes-reads.Post
-check-codes κs a x y s t p q = coincide sideSays (answerBack (λ u. Sound) Refused) sideBack p q

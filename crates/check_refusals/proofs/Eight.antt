@@ -8,7 +8,8 @@ use native.Mathlib.Omega.{arith}
 use lib.Dec.{eqb}
 use denote.Enum.Declared.{tagOf}
 use types.Run.{OneOf, miss}
-use Rattle.check_refusals.specs.Refusals.{Fault, numbered, placed, says, numberOf}
+use Rattle.check_verdicts.specs.Verdicts.{Fault, numbered, placed, numberOf}
+use Rattle.check_refusals.specs.Refusals.{says}
 use Rattle.check_refusals.specs.declared.Refusal.{Refusal}
 use Rattle.check_refusals.specs.declared.Refusal.the-variants.{Duration, Bandwidth, SpectrumLength, ListLength, FilterCount, Order, Index, Weighting}
 use Rattle.check_refusals.proofs.Refusal.{the-type}

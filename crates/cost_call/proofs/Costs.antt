@@ -9,9 +9,11 @@ use lib.ListN.{getD, take, drop, length-take}
 use lib.Seq.{getD-drop}
 use Rattle.law_lists.specs.Counted.{counted, total}
 use Rattle.law_lists.proofs.Counted.{none-of-them, one-of-them, two-of-them}
-use Rattle.check_refusals.specs.Refusals.{numbered, placed, Verdict, accepted, refused, bitsIn, itsBits, SoundSide}
-use Rattle.check_refusals.proofs.Checks.{check-by, sides-by}
-use Rattle.check_refusals.proofs.Sides.{none-over}
+use Rattle.check_verdicts.specs.Verdicts.{numbered, placed, Verdict, accepted, refused, bitsIn, itsBits}
+use Rattle.check_side.specs.Sides.{SoundSide}
+use Rattle.check_verdicts.proofs.Verdicts.{check-by}
+use Rattle.check_side.proofs.Checks.{sides-by}
+use Rattle.check_limits.proofs.Stands.{none-over}
 use Rattle.cost_tables.proofs.TableCosts.{order-cost-affordable, order-cost-at-most, index-costs-at-most}
 use Rattle.cost_call.specs.Cost.{orderCost, indexCosts, filterCost, filterBits, countedBits, costOf}
 

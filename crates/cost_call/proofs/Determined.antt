@@ -1,7 +1,8 @@
--- Any two results that a contract allows for one input coincide: the law of `check_refusals`, cited for each public function of this crate.
+-- Any two results that a contract allows for one input coincide: the law of `law_results`, cited for each public function of this crate.
 use mathlib.Core.Path.{_≡_, refl, ap}
 use Rattle.check_refusals.proofs.Eight.{of-eight}
-use Rattle.check_refusals.proofs.Determined.{Determined, coincide, itself, answerBack}
+use Rattle.law_results.proofs.Determined.{Determined, coincide, itself}
+use Rattle.check_refusals.proofs.Determined.{answerBack}
 use Rattle.cost_call.specs.Cost.{costSays}
 use Rattle.cost_call.specs.Records.{Line, short, costs, recordSays}
 use Rattle.cost_call.specs.declared.budget.CostAnswer.{CostAnswer}

@@ -6,7 +6,9 @@ use lib.Dec.{ltb}
 use lib.ListN.{take}
 use Rattle.law_lists.specs.Counted.{counted, total}
 use Rattle.cost_tables.specs.Tables.{ofOrder, orderBits, coefBits, cellsFrom}
-use Rattle.check_refusals.specs.Refusals.{Verdict, accepted, refused, bitsIn, itsBits, check, sideChecks, says}
+use Rattle.check_verdicts.specs.Verdicts.{Verdict, accepted, refused, bitsIn, itsBits, check}
+use Rattle.check_side.specs.Sides.{sideChecks}
+use Rattle.check_refusals.specs.Refusals.{says}
 use Rattle.cost_call.specs.declared.budget.CostAnswer.{CostAnswer}
 use Rattle.cost_call.specs.declared.budget.CostAnswer.the-variants.{Bits, Refused}
 

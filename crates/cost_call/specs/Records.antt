@@ -6,7 +6,7 @@ use Prim.Native.Nat.{ℕ}
 use lib.Dec.{ltb}
 use lib.ListN.{length, getD}
 use Rattle.law_lists.specs.Places.{part}
-use Rattle.check_refusals.specs.Refusals.{Verdict}
+use Rattle.check_verdicts.specs.Verdicts.{Verdict}
 use Rattle.cost_call.specs.Cost.{costOf, costSays}
 use Rattle.cost_call.specs.declared.record.RecordAnswer.{RecordAnswer}
 use Rattle.cost_call.specs.declared.record.RecordAnswer.the-variants.{Short, Whole}

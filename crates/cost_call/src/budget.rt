@@ -1,12 +1,12 @@
 // The cost of side data in bits: E's `calc_bit_budget` in whole numbers, and the door that checks its
 // input first.
 use check_refusals::Refusal;
-use check_refusals::SideAnswer;
-use check_refusals::check_side;
+use check_side::SideAnswer;
+use check_side::check_side;
 use cost_charges::coef_bits_below;
 use cost_tables::order_bits;
 ghost use mathlib.Core.Path.{_≡_};
-ghost use Rattle.check_refusals.specs.Refusals.{SoundSide};
+ghost use Rattle.check_side.specs.Sides.{SoundSide};
 ghost use Rattle.cost_call.specs.Cost.{filterCost, FilterPriced, countedBits, costOf, Priced};
 
 // The answer of `cost`: the bits, or why there are none.

@@ -1,5 +1,5 @@
--- Any two results that a contract allows for one input coincide: the law of `check_refusals`, cited for each public function of this crate.
-use Rattle.check_refusals.proofs.Determined.{Determined, itself}
+-- Any two results that a contract allows for one input coincide: the law of `law_results`, cited for each public function of this crate.
+use Rattle.law_results.proofs.Determined.{Determined, itself}
 use Rattle.cost_charges.proofs.coef_bits_below.Kinds as coef-bits-below-kinds
 use Rattle.cost_charges.proofs.coef_bits_below.Reads as coef-bits-below-reads
 

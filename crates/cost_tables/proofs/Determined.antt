@@ -1,5 +1,5 @@
--- Any two results that a contract allows for one input coincide: the law of `check_refusals`, cited for each public function of this crate.
-use Rattle.check_refusals.proofs.Determined.{Determined, itself}
+-- Any two results that a contract allows for one input coincide: the law of `law_results`, cited for each public function of this crate.
+use Rattle.law_results.proofs.Determined.{Determined, itself}
 use Rattle.cost_tables.proofs.coef_bits.Kinds as coef-bits-kinds
 use Rattle.cost_tables.proofs.coef_bits.Reads as coef-bits-reads
 use Rattle.cost_tables.proofs.coef_cumfreq.Kinds as coef-cumfreq-kinds

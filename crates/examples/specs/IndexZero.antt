@@ -9,7 +9,8 @@ use lib.Ieee.{Float, binary32, ofBits, toBits, add, sub, mul}
 use Rattle.law_lists.specs.Counted.{counted}
 use Rattle.law_lists.specs.Lines.{linesThrough, stateThrough}
 use Rattle.law_rounding.specs.Floats.{f1}
-use Rattle.check_refusals.specs.Refusals.{lowestOver, sideChecks}
+use Rattle.check_limits.specs.LowestOver.{lowestOver}
+use Rattle.check_side.specs.Sides.{sideChecks}
 use Rattle.index_choice.specs.Quantizer.{coefficientOf}
 use Rattle.row_bands.specs.Bands.{rowOf}
 use Rattle.check_frame.specs.Frames.{frameChecks}

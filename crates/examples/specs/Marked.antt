@@ -10,12 +10,14 @@ use Rattle.law_lists.specs.Every.{every}
 use Rattle.cost_tables.specs.Tables.{ofOrder, cellsFrom}
 use Rattle.law_rounding.specs.Floats.{f1}
 use Rattle.index_choice.specs.Quantizer.{indexOf, notAbove}
-use Rattle.check_refusals.specs.Refusals.{unlessRefused, sideChecks, lowestOver}
+use Rattle.check_verdicts.specs.Verdicts.{unlessRefused}
+use Rattle.check_side.specs.Sides.{sideChecks}
+use Rattle.check_limits.specs.LowestOver.{lowestOver}
 use Rattle.law_lists.specs.Counted.{counted, total}
 use Rattle.cost_call.specs.Cost.{costOf, countedBits, filterBits, filterCost, orderCost, indexCosts}
-use Rattle.row_bands.specs.Durations.{weightingOf, numbersOf}
-use Rattle.row_bands.specs.declared.duration.Duration.{Duration}
-use Rattle.row_bands.specs.declared.duration.Duration.the-variants.{Ten, SevenPointFive}
+use Rattle.row_durations.specs.Durations.{weightingOf, numbersOf}
+use Rattle.row_durations.specs.declared.Duration.{Duration}
+use Rattle.row_durations.specs.declared.Duration.the-variants.{Ten, SevenPointFive}
 
 -- an input and the result that the table gives for it
 pub data Case : Type 0 where

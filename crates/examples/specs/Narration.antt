@@ -9,7 +9,9 @@ use Prim.Native.Nat.{ℕ}
 use lib.ListN.{take, drop, replicate}
 use Rattle.law_lists.specs.Counted.{counted, total}
 use Rattle.law_lists.specs.Portions.{portionsIn, portions}
-use Rattle.check_refusals.specs.Refusals.{numbered, accepted, refused, lowestOver, sideChecks}
+use Rattle.check_verdicts.specs.Verdicts.{numbered, accepted, refused}
+use Rattle.check_limits.specs.LowestOver.{lowestOver}
+use Rattle.check_side.specs.Sides.{sideChecks}
 use Rattle.cost_tables.specs.Tables.{ofOrder, cellsFrom}
 use Rattle.cost_call.specs.Cost.{orderCost, indexCosts, filterCost, filterBits, countedBits, costOf}
 use Rattle.block_numbers.specs.Sums.{weightedFrom, sumsOf}

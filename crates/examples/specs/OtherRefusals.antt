@@ -2,8 +2,8 @@
 -- what is said of verdicts holds of it as it stands: neither `Refusal` nor a law of check_refusals knows of it.
 use mathlib.Core.Path.{_≡_, refl}
 use Prim.Native.Nat.{ℕ}
-use Rattle.check_refusals.specs.Refusals.{Fault, numbered, placed, Verdict, refused, numberOf, placeOf, ofFault, unlessRefused}
-use Rattle.check_refusals.proofs.Sides.{settle}
+use Rattle.check_verdicts.specs.Verdicts.{Fault, numbered, placed, Verdict, refused, numberOf, placeOf, ofFault, unlessRefused}
+use Rattle.check_verdicts.proofs.Verdicts.{settle}
 
 -- a line of a text, and the first byte in it that cannot stand there; or too much of it
 data TextRefusal : Type 0 where

@@ -10,12 +10,12 @@ use lib.IntN.{ℤ, pos, negsuc, natAbs, _-ℤ_}
 use lib.Ieee.{Float, binary32, ofBits, toBits, add, sub, mul, div, neg, eq, ne, lt, le}
 use Rattle.law_rounding.specs.Units.{inUnits}
 use Rattle.index_choice.specs.Quantizer.{notAbove, indexOf, coefficientOf, orderFrom, orderOf}
-use Rattle.row_bands.specs.Durations.{weightingOf}
+use Rattle.row_durations.specs.Durations.{weightingOf}
 use Rattle.row_bands.specs.Bands.{rowOf, inside}
 use Rattle.check_frame.specs.Frames.{frameChecks}
 use Rattle.law_lists.specs.Lines.{linesThrough, stateThrough}
-use Rattle.row_bands.specs.declared.row.Row.{Row}
-use Rattle.row_bands.specs.declared.duration.Duration.the-variants.{SevenPointFive}
+use Rattle.row_bands.specs.declared.Row.{Row}
+use Rattle.row_durations.specs.declared.Duration.the-variants.{SevenPointFive}
 use Rattle.law_lists.specs.Places.{tab}
 use Rattle.shape_lags.specs.Autocorrelation.{products, lagSum, normalizedLag, autocorrelation}
 use Rattle.shape_recursion.specs.Recursion.{crossed, reflection, nextRow, stepped, unpredicted, predicted}

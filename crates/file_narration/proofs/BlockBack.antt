@@ -10,7 +10,8 @@ use lib.Dec.{eqb}
 use lib.ListN.{length, getD, take, drop, replicate, length-take, length-drop, length-replicate}
 use lib.Seq.{take-at, drop-at, drop-drop, getD-append-add}
 use Rattle.law_lists.proofs.Every.{and-left, and-right}
-use Rattle.check_refusals.specs.Refusals.{accepted, lowestOver, isNowhere}
+use Rattle.check_verdicts.specs.Verdicts.{accepted}
+use Rattle.check_limits.specs.LowestOver.{lowestOver, isNowhere}
 use Rattle.block_numbers.specs.Words.{wordAt}
 use Rattle.block_numbers.specs.Sums.{sumsOf}
 use Rattle.block_record.specs.RecordBytes.{soundRecord}

@@ -9,7 +9,7 @@ use lib.ListN.{length, take, drop, length-drop, length-append}
 use lib.Seq.{take-append-le, drop-append-le}
 use Rattle.law_lists.specs.Portions.{portions}
 use Rattle.law_lists.proofs.Portions.{portions-first, portions-none}
-use Rattle.check_refusals.specs.Refusals.{Verdict, accepted, refused}
+use Rattle.check_verdicts.specs.Verdicts.{Verdict, accepted, refused}
 use Rattle.file_narration.specs.Files.{End, whole, refusedAt, Outcome, before, goOn, runFrom}
 use Rattle.file_narration.proofs.Cuts.{no-members}
 

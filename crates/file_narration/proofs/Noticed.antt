@@ -14,7 +14,7 @@ use lib.Seq.{take-take, take-set-le, take-set-lt, drop-set-add, getD-set-same, g
 use Rattle.law_lists.specs.Counted.{total}
 use Rattle.law_lists.specs.Portions.{portions}
 use Rattle.law_lists.proofs.Portions.{portions-first}
-use Rattle.check_refusals.specs.Refusals.{numbered, Verdict, accepted, refused}
+use Rattle.check_verdicts.specs.Verdicts.{numbered, Verdict, accepted, refused}
 use Rattle.block_numbers.specs.Words.{wordAt}
 use Rattle.block_numbers.specs.Sums.{sumsOf}
 use Rattle.block_check.specs.Blocks.{recordsIn, sumsRight, headerRight, numberRight, fillRight, blockVerdict, readVerdict}

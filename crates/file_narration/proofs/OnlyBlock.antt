@@ -14,10 +14,11 @@ use Rattle.law_lists.specs.Places.{part}
 use Rattle.law_lists.specs.Portions.{portions}
 use Rattle.law_lists.proofs.Every.{and-left, and-right}
 use Rattle.law_lists.proofs.Portions.{portions-first, portions-none}
-use Rattle.check_refusals.specs.Refusals.{Verdict, accepted, refused, lowestOver, isNowhere}
-use Rattle.check_refusals.specs.declared.Over.{Over}
-use Rattle.check_refusals.specs.declared.Over.the-variants.{Nowhere, At}
-use Rattle.check_refusals.proofs.Sides.{none-over}
+use Rattle.check_verdicts.specs.Verdicts.{Verdict, accepted, refused}
+use Rattle.check_limits.specs.LowestOver.{lowestOver, isNowhere}
+use Rattle.check_limits.specs.declared.Over.{Over}
+use Rattle.check_limits.specs.declared.Over.the-variants.{Nowhere, At}
+use Rattle.check_limits.proofs.Stands.{none-over}
 use Rattle.block_numbers.specs.Words.{wordAt, wordBytes}
 use Rattle.block_numbers.specs.Sums.{sumsOf}
 use Rattle.block_check.specs.Blocks.{countOf, countIn, headerBytes, fillBytes, bodyBytes, sumBytes, blockBytes, recordsIn, fillIn, zeros, sumsRight, headerRight, blockVerdict, readVerdict}

@@ -12,7 +12,7 @@ use Rattle.law_lists.specs.Portions.{portions}
 use Rattle.law_lists.proofs.Every.{and-left, and-right}
 use Rattle.law_lists.proofs.Parts.{drop-take}
 use Rattle.law_lists.proofs.Portions.{portions-first, portions-after, portions-none}
-use Rattle.check_refusals.specs.Refusals.{Verdict, accepted, refused}
+use Rattle.check_verdicts.specs.Verdicts.{Verdict, accepted, refused}
 use Rattle.block_record.specs.RecordBytes.{soundRecord}
 use Rattle.block_check.specs.Blocks.{countIn, blockBytes, soundRecords, blockVerdict, readVerdict, writeVerdict}
 use Rattle.block_check.proofs.Sound.{sound-none, sound-first}

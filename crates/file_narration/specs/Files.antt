@@ -3,7 +3,7 @@
 use mathlib.Core.List.{List, [], _∷_, _++_}
 use Prim.Native.Nat.{ℕ, suc}
 use Rattle.law_lists.specs.Portions.{portions}
-use Rattle.check_refusals.specs.Refusals.{Fault, Verdict, accepted, refused}
+use Rattle.check_verdicts.specs.Verdicts.{Fault, Verdict, accepted, refused}
 use Rattle.block_check.specs.Blocks.{blockBytes, readVerdict, writeVerdict}
 
 -- how it ends: nothing is refused, or a block is, by its number

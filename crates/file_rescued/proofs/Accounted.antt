@@ -14,7 +14,7 @@ use lib.Seq.{take-all}
 use Rattle.law_lists.specs.Places.{part}
 use Rattle.law_lists.specs.Portions.{portions}
 use Rattle.law_lists.proofs.Portions.{portions-first, portions-none}
-use Rattle.check_refusals.specs.Refusals.{Fault, Verdict, numbered, accepted, refused}
+use Rattle.check_verdicts.specs.Verdicts.{Fault, Verdict, numbered, accepted, refused}
 use Rattle.block_check.specs.Blocks.{numberIn, recordsIn}
 use Rattle.file_narration.proofs.Cuts.{no-members}
 use Rattle.file_narration.proofs.InPieces.{portions-split}

@@ -7,7 +7,7 @@ use native.Mathlib.Omega.{arith}
 use lib.ListN.{length, length-map}
 use Rattle.law_lists.specs.Portions.{portions}
 use Rattle.law_lists.proofs.Portions.{portions-after, portions-none}
-use Rattle.check_refusals.specs.Refusals.{accepted}
+use Rattle.check_verdicts.specs.Verdicts.{accepted}
 use Rattle.block_check.specs.Blocks.{blockBytes}
 use Rattle.block_check.proofs.Laid.{block-length}
 use Rattle.file_narration.specs.Files.{blocksFrom}

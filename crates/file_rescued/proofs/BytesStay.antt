@@ -10,8 +10,8 @@ use Rattle.law_lists.specs.Places.{part}
 use Rattle.law_lists.specs.Portions.{portions}
 use Rattle.law_lists.proofs.Parts.{part-of-first, part-of-rest}
 use Rattle.law_lists.proofs.Portions.{portions-after}
-use Rattle.check_refusals.specs.Refusals.{Verdict, accepted, refused}
-use Rattle.check_refusals.proofs.Sides.{not-accepted}
+use Rattle.check_verdicts.specs.Verdicts.{Verdict, accepted, refused}
+use Rattle.check_verdicts.proofs.Verdicts.{not-accepted}
 use Rattle.block_numbers.specs.Words.{wordBytes}
 use Rattle.block_check.specs.Blocks.{countIn, sumBytes}
 use Rattle.block_check.proofs.Verdicts.{few-records}

@@ -7,7 +7,7 @@ use native.Mathlib.Omega.{arith}
 use lib.ListN.{length, length-map}
 use lib.Seq.{take-at}
 use Rattle.law_lists.specs.Places.{part}
-use Rattle.check_refusals.specs.Refusals.{Fault, Verdict, accepted, refused, unlessRefused}
+use Rattle.check_verdicts.specs.Verdicts.{Fault, Verdict, accepted, refused, unlessRefused}
 use Rattle.block_numbers.specs.Words.{wordBytes}
 use Rattle.block_check.specs.Blocks.{countOf, countIn, numberIn, recordsIn, headerBytes, fillBytes, bodyBytes, sumBytes, blockBytes}
 use Rattle.block_check.proofs.Laid.{body-length}

@@ -9,8 +9,8 @@ use borrow.Author.Tests.{lt-ltb, le-ltb}
 use lib.Dec.{ltb}
 use lib.ListN.{length, length-map}
 use Rattle.law_lists.specs.Portions.{portions}
-use Rattle.check_refusals.specs.Refusals.{Verdict, numbered, accepted, refused, check}
-use Rattle.check_refusals.proofs.Sides.{not-accepted}
+use Rattle.check_verdicts.specs.Verdicts.{Verdict, numbered, accepted, refused, check}
+use Rattle.check_verdicts.proofs.Verdicts.{not-accepted}
 use Rattle.block_check.specs.Blocks.{recordsIn}
 use Rattle.file_narration.specs.Files.{whole, Outcome, reading}
 use Rattle.file_narration.proofs.Cuts.{joined}

@@ -4,7 +4,7 @@ use mathlib.Core.List.{List, [], _∷_, _++_, append-assoc}
 use Prim.Native.Nat.{ℕ, zero, suc, _+_, _≤_}
 use native.Mathlib.Omega.{arith}
 use lib.ListN.{length}
-use Rattle.check_refusals.specs.Refusals.{Fault, Verdict, accepted, refused, unlessRefused}
+use Rattle.check_verdicts.specs.Verdicts.{Fault, Verdict, accepted, refused, unlessRefused}
 use Rattle.block_rescue.specs.Rescue.{keptVerdict, renumbered}
 use Rattle.file_rescued.specs.Rescues.{Entry, keptOf, numberedFrom, entriesBy, entriesOf, numberAfter, reportFrom}
 use Rattle.file_rescued.proofs.KeptBlocks.{kept-first, left-first}

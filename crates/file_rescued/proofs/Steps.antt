@@ -6,7 +6,7 @@ use Prim.Native.Nat.{ℕ, suc, _+_, _*_, _≤_}
 use native.Mathlib.Omega.{arith}
 use lib.ListN.{length, length-append}
 use Rattle.law_lists.specs.Portions.{portions}
-use Rattle.check_refusals.specs.Refusals.{Verdict, accepted, refused}
+use Rattle.check_verdicts.specs.Verdicts.{Verdict, accepted, refused}
 use Rattle.file_narration.proofs.InPieces.{portions-split}
 use Rattle.block_rescue.specs.Rescue.{keptVerdict, renumbered, rescueVerdict}
 use Rattle.block_rescue.proofs.Kept.{rescue-fault, takes-number}

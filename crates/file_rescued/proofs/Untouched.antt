@@ -12,7 +12,7 @@ use lib.Seq.{getD-append-add}
 use Rattle.law_lists.specs.Places.{part}
 use Rattle.law_lists.specs.Portions.{portions}
 use Rattle.law_lists.proofs.Portions.{portions-first, portions-none}
-use Rattle.check_refusals.specs.Refusals.{Verdict, accepted, refused, unlessRefused}
+use Rattle.check_verdicts.specs.Verdicts.{Verdict, accepted, refused, unlessRefused}
 use Rattle.block_numbers.specs.Words.{wordBytes}
 use Rattle.block_numbers.specs.Sums.{sumsOf}
 use Rattle.block_check.specs.Blocks.{numberIn, recordsIn, sumBytes, blockVerdict, readVerdict}

@@ -6,7 +6,7 @@ use Prim.Native.Nat.{ℕ, suc}
 use lib.Dec.{eqb, ltb}
 use lib.ListN.{length}
 use Rattle.law_lists.specs.Portions.{portions}
-use Rattle.check_refusals.specs.Refusals.{Fault, Verdict, accepted, refused, check, unlessRefused}
+use Rattle.check_verdicts.specs.Verdicts.{Fault, Verdict, accepted, refused, check, unlessRefused}
 use Rattle.block_check.specs.Blocks.{numberIn}
 use Rattle.block_rescue.specs.Rescue.{keptVerdict, renumbered, rescueVerdict}
 

@@ -1,6 +1,6 @@
--- Any two results that a contract allows for one input coincide: the law of `check_refusals`, cited for each public function of this crate. Only
+-- Any two results that a contract allows for one input coincide: the law of `law_results`, cited for each public function of this crate. Only
 -- `coefficient_of` and `eight_coefficients` have floats for their results, and no coefficient is a NaN.
-use Rattle.check_refusals.proofs.Determined.{Determined, itself}
+use Rattle.law_results.proofs.Determined.{Determined, itself}
 use Rattle.index_choice.proofs.coefficient_of.Kinds as coefficient-of-kinds
 use Rattle.index_choice.proofs.coefficient_of.Reads as coefficient-of-reads
 use Rattle.index_choice.proofs.eight_coefficients.Kinds as eight-coefficients-kinds

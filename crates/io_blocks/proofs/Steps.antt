@@ -5,8 +5,8 @@ use Prim.Native.Nat.{ℕ, _+_, _≤_, _<_}
 use native.Mathlib.Decide.{decLt}
 use native.Mathlib.Omega.{arith}
 use lib.ListN.{length, take, length-take, drop-of-length-le}
-use Rattle.check_refusals.specs.Refusals.{accepted, unlessRefused, onAccepted}
-use Rattle.check_refusals.proofs.Sides.{not-accepted}
+use Rattle.check_verdicts.specs.Verdicts.{accepted, unlessRefused, onAccepted}
+use Rattle.check_verdicts.proofs.Verdicts.{not-accepted}
 use Rattle.block_check.specs.Blocks.{countIn, writeVerdict}
 use Rattle.block_write.specs.BlockCalls.{laidOver}
 use Rattle.block_check.proofs.Laid.{block-length}

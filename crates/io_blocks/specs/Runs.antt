@@ -5,7 +5,7 @@ use Prim.Native.Nat.{ℕ, _+_, _≤_}
 use lib.ListN.{length, take}
 use Rattle.io.specs.Counts.{Counts}
 use Rattle.law_lists.specs.Portions.{portions}
-use Rattle.check_refusals.specs.Refusals.{Verdict, accepted, refused}
+use Rattle.check_verdicts.specs.Verdicts.{Verdict, accepted, refused}
 use Rattle.block_check.specs.Blocks.{readVerdict, writeVerdict}
 use Rattle.block_check.specs.Told.{blockFault}
 use Rattle.file_narration.specs.Files.{End, whole, refusedAt, Outcome, runFrom}

@@ -3,7 +3,7 @@
 use block_check::BlockAnswer;
 use block_check::BlockRefusal;
 use block_check::check_block;
-use block_numbers::least;
+use law_numbers::least;
 use block_write::write_block;
 use io_streams::put;
 ghost use mathlib.Core.Path.{_≡_};

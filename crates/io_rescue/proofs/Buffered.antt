@@ -5,7 +5,7 @@ use Prim.Native.Nat.{ℕ, _≤_}
 use native.Mathlib.Omega.{arith}
 use lib.ListN.{length, take}
 use lib.Seq.{take-all}
-use Rattle.check_refusals.specs.Refusals.{Verdict, accepted, refused, unlessRefused}
+use Rattle.check_verdicts.specs.Verdicts.{Verdict, accepted, refused, unlessRefused}
 use Rattle.block_check.specs.Blocks.{numberIn}
 use Rattle.block_check.specs.Told.{blockFault}
 use Rattle.block_check.specs.declared.check.BlockRefusal.{BlockRefusal}

@@ -6,7 +6,7 @@ use native.Mathlib.Omega.{arith}
 use lib.ListN.{length, take, drop, drop-of-length-le}
 use Rattle.law_lists.specs.Portions.{portions}
 use Rattle.law_lists.proofs.Portions.{portions-at, portions-none}
-use Rattle.check_refusals.specs.Refusals.{Verdict, accepted, refused, unlessRefused}
+use Rattle.check_verdicts.specs.Verdicts.{Verdict, accepted, refused, unlessRefused}
 use Rattle.block_rescue.specs.Rescue.{rescueVerdict}
 use Rattle.block_rescue.proofs.Kept.{kept-long, renumbered-length, rescuable}
 use Rattle.file_rescued.specs.Rescues.{Entry, entriesBy, Stepped, nextBy, stepThen, steppedFrom}

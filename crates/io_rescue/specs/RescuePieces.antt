@@ -5,7 +5,7 @@ use Prim.Native.Nat.{ℕ, _≤_}
 use lib.ListN.{length, take}
 use Rattle.io.specs.Counts.{Counts}
 use Rattle.law_lists.specs.Portions.{portions}
-use Rattle.check_refusals.specs.Refusals.{unlessRefused}
+use Rattle.check_verdicts.specs.Verdicts.{unlessRefused}
 use Rattle.block_rescue.specs.Rescue.{rescueVerdict}
 use Rattle.io_streams.specs.Text.{Puts}
 use Rattle.file_rescued.specs.Rescues.{entriesBy, Stepped, nextBy, steppedFrom}

@@ -5,7 +5,7 @@ use mathlib.Core.List.{List, []}
 use Prim.Native.Nat.{ℕ, _+_, _-_, _*_, _/_, _≤_}
 use lib.ListN.{length, take, drop}
 use Rattle.law_lists.specs.Portions.{portions}
-use Rattle.check_refusals.specs.Refusals.{numberOf}
+use Rattle.check_verdicts.specs.Verdicts.{numberOf}
 use Rattle.file_narration.specs.Files.{End, whole, refusedAt, Outcome}
 use Rattle.io_streams.specs.declared.streams.Read.{Read}
 use Rattle.io_streams.specs.declared.streams.Read.the-variants as read

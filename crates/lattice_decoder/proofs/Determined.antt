@@ -1,8 +1,8 @@
--- Any two results that a contract allows for one input coincide: the law of `check_refusals`, cited for each public function of this crate, and with
+-- Any two results that a contract allows for one input coincide: the law of `law_results`, cited for each public function of this crate, and with
 -- it what is left in the lines that were lent. The logic has one NaN, so of a number that is a NaN the bits are left open.
 use mathlib.Core.List.{List}
 use lib.Ieee.{Float}
-use Rattle.check_refusals.proofs.Determined.{DeterminedWith, itself}
+use Rattle.law_results.proofs.Determined.{DeterminedWith, itself}
 use Rattle.lattice_decoder.proofs.band_decoded.Kinds as band-decoded-kinds
 use Rattle.lattice_decoder.proofs.band_decoded.Reads as band-decoded-reads
 

@@ -15,8 +15,8 @@ use Rattle.law_rounding.proofs.Factors.{Factor}
 use Rattle.index_choice.specs.Quantizer.{coefficientOf}
 use Rattle.index_choice.proofs.CoefficientFactors.{coefficient-factor}
 use Rattle.row_bands.specs.Bands.{rowOf, bandOf, inside}
-use Rattle.row_bands.specs.declared.duration.Duration.{Duration}
-use Rattle.row_bands.specs.declared.row.Row.{Row}
+use Rattle.row_durations.specs.declared.Duration.{Duration}
+use Rattle.row_bands.specs.declared.Row.{Row}
 use Rattle.row_bands.proofs.Bands.{Fits, SoundRow}
 use Rattle.row_bands.proofs.Apart.{inside-length, inside-at, row-apart, in-row}
 use Rattle.lattice_lines.specs.Lattice.{atRest, statesBy}

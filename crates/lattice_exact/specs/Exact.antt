@@ -12,8 +12,8 @@ use lib.Ieee.{Float, nan}
 use Rattle.law_rounding.specs.Units.{inUnits, AtMost, WithinOf}
 use Rattle.law_lists.specs.Lines.{linesThrough, stateThrough}
 use Rattle.row_bands.specs.Bands.{inside, lastStop}
-use Rattle.row_bands.specs.declared.row.Band.{Band}
-use Rattle.row_bands.specs.declared.row.Row.{Row}
+use Rattle.row_bands.specs.declared.Band.{Band}
+use Rattle.row_bands.specs.declared.Row.{Row}
 use Rattle.side_data.specs.declared.Quantized.{Quantized}
 use Rattle.side_data.specs.declared.SideData.{SideData}
 

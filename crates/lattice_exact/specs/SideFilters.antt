@@ -1,7 +1,7 @@
 -- The filters that side data are: the first one's coefficients and order, then the second's, and what they leave of a spectrum.
 use mathlib.Core.List.{List, [], _∷_}
 use lib.Ieee.{Float}
-use Rattle.row_bands.specs.declared.row.Row.{Row}
+use Rattle.row_bands.specs.declared.Row.{Row}
 use Rattle.lattice_encoder.specs.EncoderLattice.{lineEncoded}
 use Rattle.lattice_rows.specs.Filters.{Filter, filterWith, rowFiltered}
 use Rattle.side_data.specs.declared.SideData.{SideData}

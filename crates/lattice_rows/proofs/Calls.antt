@@ -6,11 +6,11 @@ use Prim.Native.Nat.{ℕ, _≤_, _<_}
 use native.Mathlib.Omega.{arith}
 use lib.Ieee.{Float, nan}
 use lib.ListN.{length, getD}
-use Rattle.check_refusals.specs.Refusals.{Verdict, accepted, refused, unlessRefused}
-use Rattle.row_bands.specs.Durations.{numbersOf}
+use Rattle.check_verdicts.specs.Verdicts.{Verdict, accepted, refused, unlessRefused}
+use Rattle.row_durations.specs.Durations.{numbersOf}
 use Rattle.row_bands.specs.Bands.{rowOf, bandOf, lastStop, inside}
-use Rattle.row_bands.specs.declared.duration.Duration.{Duration}
-use Rattle.row_bands.specs.declared.row.Row.{Row}
+use Rattle.row_durations.specs.declared.Duration.{Duration}
+use Rattle.row_bands.specs.declared.Row.{Row}
 use Rattle.row_bands.proofs.Bands.{SoundRow}
 use Rattle.row_bands.proofs.Apart.{Outside, row-apart, early-outside, late-outside}
 use Rattle.lattice_lines.specs.Lattice.{Lattice}

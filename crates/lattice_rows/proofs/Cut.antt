@@ -1,8 +1,8 @@
 -- What is made of a band number by number, and of a row band by band.
 use mathlib.Core.Path.{_≡_}
 use Prim.Native.Nat.{ℕ}
-use Rattle.row_bands.specs.declared.row.Band.{Band}
-use Rattle.row_bands.specs.declared.row.Row.{Row}
+use Rattle.row_bands.specs.declared.Band.{Band}
+use Rattle.row_bands.specs.declared.Row.{Row}
 use Rattle.lattice_rows.specs.Split.{eachNumber, eachBand}
 
 pub four-numbers : (held : ℕ → ℕ) (band : Band) (a b c d : ℕ) → a ≡ held (band .start) → b ≡ held (band .«first_cut») → c ≡ held (band .«second_cut»)

@@ -1,5 +1,5 @@
--- Any two results that a contract allows for one input coincide: the law of `check_refusals`, cited for each public function of this crate.
-use Rattle.check_refusals.proofs.Determined.{Determined, itself}
+-- Any two results that a contract allows for one input coincide: the law of `law_results`, cited for each public function of this crate.
+use Rattle.law_results.proofs.Determined.{Determined, itself}
 use Rattle.lattice_rows.proofs.row_below_line.Kinds as row-below-line-kinds
 use Rattle.lattice_rows.proofs.row_below_line.Reads as row-below-line-reads
 use Rattle.lattice_rows.proofs.row_from_line.Kinds as row-from-line-kinds

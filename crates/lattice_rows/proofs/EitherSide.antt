@@ -11,8 +11,8 @@ use lib.ListN.{length, take, drop}
 use lib.Seq.{length-take-le, take-take, drop-drop, take-append-le, drop-append-le, take-append-add}
 use Rattle.law_lists.specs.Places.{part}
 use Rattle.law_lists.proofs.Parts.{drop-take, part-of-first, part-of-rest}
-use Rattle.row_bands.specs.declared.row.Band.{Band}
-use Rattle.row_bands.specs.declared.row.Row.{Row}
+use Rattle.row_bands.specs.declared.Band.{Band}
+use Rattle.row_bands.specs.declared.Row.{Row}
 use Rattle.row_bands.proofs.Bands.{Fits, SoundRow}
 use Rattle.row_bands.proofs.Apart.{InTurn}
 use Rattle.lattice_lines.specs.Lattice.{Lattice}

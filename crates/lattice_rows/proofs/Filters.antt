@@ -10,8 +10,8 @@ use lib.ListN.{length, getD, take, drop, take-append-drop}
 use Rattle.law_lists.specs.Lines.{linesThrough, stateThrough}
 use Rattle.law_lists.proofs.Orders.{within-8}
 use Rattle.row_bands.specs.Bands.{bandOf, inside, within}
-use Rattle.row_bands.specs.declared.row.Band.{Band}
-use Rattle.row_bands.specs.declared.row.Row.{Row}
+use Rattle.row_bands.specs.declared.Band.{Band}
+use Rattle.row_bands.specs.declared.Row.{Row}
 use Rattle.row_bands.proofs.Bands.{Fits, SoundRow, band-kept, band-back}
 use Rattle.row_bands.proofs.Apart.{Outside, Apart, within-length, within-outside, inside-within, inside-other}
 use Rattle.lattice_lines.specs.Lattice.{Lattice, atRest, linesBy, statesBy, Filtered}

@@ -11,8 +11,8 @@ use lib.Seq.{length-take-le, drop-drop, take-at, drop-at}
 use Rattle.law_lists.specs.Places.{part}
 use Rattle.law_lists.proofs.Parts.{part-split}
 use Rattle.row_bands.specs.Bands.{inside, within}
-use Rattle.row_bands.specs.declared.row.Band.{Band}
-use Rattle.row_bands.specs.declared.row.Row.{Row}
+use Rattle.row_bands.specs.declared.Band.{Band}
+use Rattle.row_bands.specs.declared.Row.{Row}
 use Rattle.row_bands.proofs.Bands.{Fits, SoundRow}
 use Rattle.row_bands.proofs.Apart.{InTurn, within-length}
 use Rattle.lattice_lines.specs.Lattice.{Lattice}

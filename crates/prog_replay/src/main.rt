@@ -9,6 +9,7 @@
 // there: a word that is not there is expected as 2^64 - 1, which nothing answers.
 use index_choice::coefficient_of;
 use index_choice::index_of;
+use law_numbers::least;
 use libc::STDOUT_FILENO;
 use tns::Answer;
 use tns::tns_cost;
@@ -203,13 +204,6 @@ fn answered(call: Call, orders: &[u8], indices: &[u8], lines: &mut [f32]) -> Ans
         indices,
         lines,
     )
-}
-
-// A count, or the most that there is room for.
-fn least(count: usize, most: usize) -> usize
-    ensures { λ r. ⌜ r ≤ most ⌝ }
-{
-    if count < most { count } else { most }
 }
 
 fn orders_of(list: i32) -> [u8; 3] {

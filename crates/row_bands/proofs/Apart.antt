@@ -13,13 +13,12 @@ use lib.Ieee.{Float, nan}
 use lib.ListN.{length, getD, take, drop, length-append, length-drop, List·getD-append}
 use lib.Seq.{length-take-le, getD-append-add, getD-take, getD-drop, take-at, drop-at, ext-getD}
 use Rattle.law_lists.specs.Every.{every}
-use Rattle.law_lists.proofs.Every.{every-at}
-use Rattle.law_lists.proofs.Every.{and-left, and-right}
-use Rattle.row_bands.specs.Durations.{numbersOf}
+use Rattle.law_lists.proofs.Every.{every-at, and-left, and-right}
+use Rattle.row_durations.specs.Durations.{numbersOf}
 use Rattle.row_bands.specs.Bands.{rowsOf, bandFrom, rowOf, bandOf, lastStop, inside, within}
-use Rattle.row_bands.specs.declared.duration.Duration.{Duration}
-use Rattle.row_bands.specs.declared.duration.Duration.the-variants.{Ten, SevenPointFive}
-use Rattle.row_bands.specs.declared.row.Band.{Band}
+use Rattle.row_durations.specs.declared.Duration.{Duration}
+use Rattle.row_durations.specs.declared.Duration.the-variants.{Ten, SevenPointFive}
+use Rattle.row_bands.specs.declared.Band.{Band}
 use Rattle.row_bands.proofs.Bands.{Fits}
 
 -- a place that is not in a band

@@ -13,10 +13,10 @@ use lib.Seq.{drop-drop}
 use Rattle.law_lists.specs.Every.{every}
 use Rattle.law_lists.proofs.Every.{and-left, and-right, every-at}
 use Rattle.row_bands.specs.Bands.{rowsOf, bandFrom, rowOf, inside, within}
-use Rattle.row_bands.specs.declared.duration.Duration.{Duration}
-use Rattle.row_bands.specs.declared.duration.Duration.the-variants.{Ten, SevenPointFive}
-use Rattle.row_bands.specs.declared.row.Band.{Band}
-use Rattle.row_bands.specs.declared.row.Row.{Row}
+use Rattle.row_durations.specs.declared.Duration.{Duration}
+use Rattle.row_durations.specs.declared.Duration.the-variants.{Ten, SevenPointFive}
+use Rattle.row_bands.specs.declared.Band.{Band}
+use Rattle.row_bands.specs.declared.Row.{Row}
 
 -- a band lies within so many lines
 pub record Fits (band : Band) (lines : ℕ) : Type 0 where

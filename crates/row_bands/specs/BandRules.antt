@@ -5,10 +5,10 @@ use mathlib.Core.List.{List}
 use Prim.Native.Nat.{ℕ}
 use lib.Dec.{eqb, leb, ltb}
 use Rattle.law_lists.specs.Every.{every}
-use Rattle.row_bands.specs.Durations.{numbersOf, DurationNumbers}
+use Rattle.row_durations.specs.Durations.{numbersOf, DurationNumbers}
 use Rattle.row_bands.specs.Bands.{tenMsRows, sevenPointFiveMsRows, bandFrom}
-use Rattle.row_bands.specs.declared.duration.Duration.the-variants.{Ten, SevenPointFive}
-use Rattle.row_bands.specs.declared.row.Band.{Band}
+use Rattle.row_durations.specs.declared.Duration.the-variants.{Ten, SevenPointFive}
+use Rattle.row_bands.specs.declared.Band.{Band}
 
 -- both cuts are inside the band, in order
 unfoldable pub cut : Band → Bool

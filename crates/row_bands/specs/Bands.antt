@@ -4,10 +4,10 @@ use Prim.Native.Nat.{ℕ, zero, suc, _+_, max}
 use lib.ListN.{getD, take, drop}
 use lib.Ieee.{Float}
 use Rattle.law_lists.specs.Places.{part}
-use Rattle.row_bands.specs.declared.duration.Duration.{Duration}
-use Rattle.row_bands.specs.declared.duration.Duration.the-variants.{Ten, SevenPointFive}
-use Rattle.row_bands.specs.declared.row.Band.{Band}
-use Rattle.row_bands.specs.declared.row.Row.{Row}
+use Rattle.row_durations.specs.declared.Duration.{Duration}
+use Rattle.row_durations.specs.declared.Duration.the-variants.{Ten, SevenPointFive}
+use Rattle.row_bands.specs.declared.Band.{Band}
+use Rattle.row_bands.specs.declared.Row.{Row}
 
 -- A row for each bandwidth: start, two cuts and stop of the first band, and the same of the second, or zeros where the row has none.
 abbrev pub tenMsRows : List (List ℕ)

@@ -1,4 +1,3 @@
--- What a reader has to believe of this layer, in the order of document 01's headings.
-pub mod Durations
+-- What a reader has to believe of the band rows.
 pub mod Bands
 pub mod BandRules

@@ -1,6 +1,6 @@
--- Any two results that a contract allows for one input coincide: the law of `check_refusals`, cited for `analyse` and `analyse_frame`. The logic has
+-- Any two results that a contract allows for one input coincide: the law of `law_results`, cited for `analyse` and `analyse_frame`. The logic has
 -- one NaN, so of a gain or a coefficient that is a NaN the bits are left open.
-use Rattle.check_refusals.proofs.Determined.{Determined, itself}
+use Rattle.law_results.proofs.Determined.{Determined, itself}
 use Rattle.shape_frame.proofs.analyse.Kinds as analyse-kinds
 use Rattle.shape_frame.proofs.analyse.Reads as analyse-reads
 use Rattle.shape_frame.proofs.frame.analyse_frame.Kinds as analyse-frame-kinds

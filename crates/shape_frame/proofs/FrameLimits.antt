@@ -9,11 +9,10 @@ use lib.ListN.{length}
 use Rattle.shape_frame.specs.Analysis.{reflectionsOf, filterRecord}
 use Rattle.shape_reflections.specs.Reflections.{reflections}
 use Rattle.law_lists.proofs.Tab.{length-tab}
-use Rattle.row_bands.specs.declared.row.Band.{Band}
-use Rattle.row_bands.specs.declared.row.Row.{Row}
+use Rattle.row_bands.specs.declared.Band.{Band}
+use Rattle.row_bands.specs.declared.Row.{Row}
 use Rattle.shape_frame.specs.FrameSide.{filterOf, secondOf, hasSecond, sideOf}
-use Rattle.side_data.specs.Limits.{Within8}
-use Rattle.side_data.specs.Limits.{Reported}
+use Rattle.side_data.specs.Limits.{Within8, Reported}
 use Rattle.side_data.proofs.Limits.{quantized-within, absent-within}
 use Rattle.side_data.specs.declared.Quantized.{Quantized}
 

@@ -4,7 +4,7 @@ use mathlib.Core.List.{List}
 use Prim.Native.Nat.{ℕ}
 use lib.ListN.{replicate}
 use lib.Ieee.{Float}
-use Rattle.row_bands.specs.declared.row.Band.{Band}
+use Rattle.row_bands.specs.declared.Band.{Band}
 use Rattle.law_rounding.specs.Floats.{f0}
 use Rattle.law_lists.specs.Places.{at}
 use Rattle.shape_lags.specs.Autocorrelation.{autocorrelation}

@@ -4,8 +4,8 @@ use mathlib.Core.List.{List}
 use Prim.Native.Nat.{ℕ}
 use lib.Dec.{eqb}
 use lib.Ieee.{Float}
-use Rattle.row_bands.specs.declared.row.Band.{Band}
-use Rattle.row_bands.specs.declared.row.Row.{Row}
+use Rattle.row_bands.specs.declared.Band.{Band}
+use Rattle.row_bands.specs.declared.Row.{Row}
 use Rattle.side_data.specs.Quantized.{quantizedOf, absent}
 use Rattle.side_data.specs.Side.{bitsOf}
 use Rattle.side_data.specs.declared.Quantized.{Quantized}

@@ -5,7 +5,7 @@ use Prim.Native.Nat.{ℕ, zero, suc, _+_, _-_}
 use lib.Dec.{eqb}
 use lib.ListN.{length}
 use lib.Ieee.{Float, eq, ofBits, binary32}
-use Rattle.row_bands.specs.declared.row.Band.{Band}
+use Rattle.row_bands.specs.declared.Band.{Band}
 use Rattle.law_rounding.specs.Floats.{_⊕_, _⊗_, _⊘_, f0}
 use Rattle.law_lists.specs.Places.{part, at, tab}
 

@@ -1,6 +1,6 @@
--- Any two results that a contract allows for one input coincide: the law of `check_refusals`, cited for each public function of this crate.
+-- Any two results that a contract allows for one input coincide: the law of `law_results`, cited for each public function of this crate.
 -- The logic has one NaN, so of a number that is a NaN the bits are left open.
-use Rattle.check_refusals.proofs.Determined.{Determined, itself}
+use Rattle.law_results.proofs.Determined.{Determined, itself}
 use Rattle.shape_recursion.proofs.recursion.predict.Kinds as predict-kinds
 use Rattle.shape_recursion.proofs.recursion.predict.Reads as predict-reads
 use Rattle.shape_recursion.proofs.gain.gain_record.Kinds as gain-record-kinds

@@ -1,6 +1,6 @@
--- Any two results that a contract allows for one input coincide: the law of `check_refusals`, cited for each public function of this crate.
+-- Any two results that a contract allows for one input coincide: the law of `law_results`, cited for each public function of this crate.
 -- The logic has one NaN, so of a number that is a NaN the bits are left open.
-use Rattle.check_refusals.proofs.Determined.{Determined, itself}
+use Rattle.law_results.proofs.Determined.{Determined, itself}
 use Rattle.shape_reflections.proofs.damped_row.Kinds as damped-row-kinds
 use Rattle.shape_reflections.proofs.damped_row.Reads as damped-row-reads
 use Rattle.shape_reflections.proofs.reflected_row.Kinds as reflected-row-kinds

@@ -1,6 +1,6 @@
--- Any two results that a contract allows for one input coincide: the law of `check_refusals`, cited for each public function of this crate.
+-- Any two results that a contract allows for one input coincide: the law of `law_results`, cited for each public function of this crate.
 -- Only coefficients are floats here, and no coefficient that is quantized is a NaN.
-use Rattle.check_refusals.proofs.Determined.{Determined, itself}
+use Rattle.law_results.proofs.Determined.{Determined, itself}
 use Rattle.side_data.proofs.quantize_all.Kinds as quantize-all-kinds
 use Rattle.side_data.proofs.quantize_all.Reads as quantize-all-reads
 use Rattle.side_data.proofs.none.Kinds as none-kinds

@@ -5,7 +5,8 @@ use native.Mathlib.Omega.{arith}
 use lib.ListN.{length, length-append}
 use denote.Enum.Declared.{tagOf}
 use types.Run.{OneOf}
-use Rattle.check_refusals.specs.Refusals.{Fault, numbered, placed, Verdict, accepted, refused, numberOf, says}
+use Rattle.check_verdicts.specs.Verdicts.{Fault, numbered, placed, Verdict, accepted, refused, numberOf}
+use Rattle.check_refusals.specs.Refusals.{says}
 use Rattle.check_refusals.specs.declared.Refusal.{Refusal}
 use Rattle.check_refusals.proofs.Refusal.{the-type}
 use Rattle.check_refusals.proofs.Eight.{unplaced, of-eight}

@@ -1,7 +1,7 @@
 -- Document 01, "Table of marked cases", the program: the line of text for a record.
 use mathlib.Core.List.{List, _++_}
 use Prim.Native.Nat.{ℕ}
-use Rattle.check_refusals.specs.Refusals.{numbered, placed, Verdict, accepted, refused}
+use Rattle.check_verdicts.specs.Verdicts.{numbered, placed, Verdict, accepted, refused}
 use Rattle.cost_call.specs.Records.{Line, short, costs}
 use Rattle.io_streams.specs.Text.{ascii, decimal}
 

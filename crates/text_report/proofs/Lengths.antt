@@ -6,7 +6,7 @@ use Prim.Native.Nat.{ℕ, _≤_}
 use native.Mathlib.Omega.{arith}
 use lib.Dec.{eqb, ltb}
 use lib.ListN.{length, length-append}
-use Rattle.check_refusals.specs.Refusals.{numberOf, Verdict, accepted, refused}
+use Rattle.check_verdicts.specs.Verdicts.{numberOf, Verdict, accepted, refused}
 use Rattle.block_check.specs.Blocks.{numberIn}
 use Rattle.io_streams.proofs.Decimals.{decimal-at-most}
 use Rattle.file_rescued.specs.Rescues.{Entry, dropped, moved, stray, entriesBy}

@@ -1,7 +1,7 @@
 -- Request C-16, the report: a line for each entry.
 use mathlib.Core.List.{List, [], _∷_, _++_}
 use Prim.Native.Nat.{ℕ}
-use Rattle.check_refusals.specs.Refusals.{numberOf}
+use Rattle.check_verdicts.specs.Verdicts.{numberOf}
 use Rattle.io_streams.specs.Text.{ascii, decimal}
 use Rattle.file_rescued.specs.Rescues.{Entry, dropped, moved, stray}
 

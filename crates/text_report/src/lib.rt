@@ -1,7 +1,7 @@
 // The lines of a rescue's report, put into a text one after the other.
 use io_streams::put;
 use io_streams::put_decimal;
-ghost use Rattle.check_refusals.specs.Refusals.{numbered};
+ghost use Rattle.check_verdicts.specs.Verdicts.{numbered};
 ghost use Rattle.io_streams.specs.Text.{Puts};
 ghost use Rattle.file_rescued.specs.Rescues.{dropped, moved, stray, keptEntries, leftEntries};
 ghost use Rattle.text_report.specs.ReportText.{blockText, entryText, reportText};

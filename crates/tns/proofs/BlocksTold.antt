@@ -2,7 +2,7 @@
 use mathlib.Core.Path.{_≡_, sym, _∙_, ap, subst}
 use mathlib.Core.List.{List}
 use Prim.Native.Nat.{ℕ, _≤_}
-use Rattle.check_refusals.specs.Refusals.{Verdict, onAccepted}
+use Rattle.check_verdicts.specs.Verdicts.{Verdict, onAccepted}
 use Rattle.block_check.specs.Told.{blockSays, countSaid}
 use Rattle.block_check.specs.declared.check.BlockAnswer.{BlockAnswer}
 use Rattle.block_write.specs.BlockCalls.{BlockDone}

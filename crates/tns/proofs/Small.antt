@@ -6,13 +6,15 @@ use native.Mathlib.Omega.{arith}
 use lib.Dec.{ltb, eqb}
 use lib.Ieee.{Float}
 use lib.ListN.{length, getD}
-use Rattle.check_refusals.specs.Refusals.{numbered, placed, Verdict, accepted, refused, noFault, check, says, placeOf, ofFault, noBits, itsBits}
+use Rattle.check_verdicts.specs.Verdicts.{numbered, placed, Verdict, accepted, refused, noFault, check, placeOf, ofFault, noBits, itsBits}
+use Rattle.check_refusals.specs.Refusals.{says}
 use Rattle.check_refusals.specs.declared.Refusal.{Refusal}
 use Rattle.check_refusals.proofs.Eight.{of-eight}
-use Rattle.check_refusals.proofs.Checks.{check-by, sides-by}
+use Rattle.check_verdicts.proofs.Verdicts.{check-by}
+use Rattle.check_side.proofs.Checks.{sides-by}
 use Rattle.cost_call.specs.Cost.{costOf}
 use Rattle.cost_call.proofs.Costs.{cost-by, counted-at-most}
-use Rattle.row_bands.specs.Durations.{durationOf}
+use Rattle.row_durations.specs.Durations.{durationOf}
 use Rattle.row_bands.specs.Bands.{rowOf, lastStop}
 use Rattle.check_frame.proofs.Frames.{frames-by}
 use Rattle.check_line.specs.Calls.{lineChecks, lineCallChecks, lineSays}

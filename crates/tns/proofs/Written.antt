@@ -3,8 +3,8 @@ use mathlib.Core.Path.{_≡_, refl, sym, ap}
 use mathlib.Core.List.{List}
 use Prim.Native.Nat.{ℕ}
 use lib.Ieee.{Float}
-use Rattle.check_refusals.specs.Refusals.{Fault, Verdict, accepted, refused, unlessRefused}
-use Rattle.check_refusals.proofs.Sides.{not-accepted}
+use Rattle.check_verdicts.specs.Verdicts.{Fault, Verdict, accepted, refused, unlessRefused}
+use Rattle.check_verdicts.proofs.Verdicts.{not-accepted}
 use Rattle.call_encode.specs.Encoder.{bitsVerdict, sideIn}
 use Rattle.side_data.specs.Side.{recordOf, coefficientsIn}
 use Rattle.side_data.specs.declared.SideData.{SideData}

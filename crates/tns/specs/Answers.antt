@@ -1,6 +1,6 @@
 -- How the exported functions tell a verdict: refusal 0 is an accepted call.
 use Prim.Native.Nat.{ℕ}
-use Rattle.check_refusals.specs.Refusals.{Verdict, numberOf, placeOf, foundOf, ofFault, bitsIn}
+use Rattle.check_verdicts.specs.Verdicts.{Verdict, numberOf, placeOf, foundOf, ofFault, bitsIn}
 use Rattle.tns.specs.declared.Answer.{Answer}
 
 -- the number, the place and the found value that the verdict names, each 0 where it names none, and the bits

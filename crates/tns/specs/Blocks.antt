@@ -2,7 +2,7 @@
 use mathlib.Core.Path.{_≡_}
 use mathlib.Core.List.{List}
 use Prim.Native.Nat.{ℕ}
-use Rattle.check_refusals.specs.Refusals.{Verdict, numberOf, ofFault, unlessRefused, onAccepted}
+use Rattle.check_verdicts.specs.Verdicts.{Verdict, numberOf, ofFault, unlessRefused, onAccepted}
 use Rattle.block_check.specs.Told.{countSaid}
 use Rattle.block_write.specs.BlockCalls.{laidOver}
 use Rattle.tns.specs.declared.blocks.BlockTold.{BlockTold}

@@ -3,8 +3,8 @@ use mathlib.Core.Path.{_≡_}
 use mathlib.Core.List.{List}
 use Prim.Native.Nat.{ℕ, _≤_}
 use lib.Ieee.{Float}
-use Rattle.check_refusals.specs.Refusals.{Verdict, unlessRefused, IfAccepted, itsBits}
-use Rattle.row_bands.specs.declared.row.Row.{Row}
+use Rattle.check_verdicts.specs.Verdicts.{Verdict, unlessRefused, IfAccepted, itsBits}
+use Rattle.row_bands.specs.declared.Row.{Row}
 use Rattle.side_data.specs.Side.{recordOf, coefficientsIn}
 use Rattle.side_data.specs.declared.SideData.{SideData}
 use Rattle.lattice_exact.specs.Exact.{NearExact}

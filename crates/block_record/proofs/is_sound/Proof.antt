@@ -7,8 +7,10 @@ use borrow.Author.Needs.{needs}
 use borrow.Author.Tests.{eq-eqb, ne-eqb}
 use lib.Dec.{eqb}
 use lib.ListN.{length}
-use Rattle.check_refusals.specs.Refusals.{Fault, Verdict, accepted, refused, noFault, codeChecks, sideSays, unlessRefused}
-use Rattle.check_refusals.proofs.Sides.{settle, codes-settle}
+use Rattle.check_verdicts.specs.Verdicts.{Fault, Verdict, accepted, refused, noFault, unlessRefused}
+use Rattle.check_side.specs.Sides.{codeChecks, sideSays}
+use Rattle.check_verdicts.proofs.Verdicts.{settle}
+use Rattle.check_side.proofs.Sides.{codes-settle}
 use Rattle.cost_call.specs.Cost.{costSays}
 use Rattle.cost_call.specs.Records.{costOfFields}
 use Rattle.block_record.specs.RecordBytes.{recordedOf, soundRecord}

@@ -5,7 +5,7 @@ use Prim.Native.Nat.{ℕ}
 use native.Mathlib.Omega.{arith}
 use borrow.Author.Needs.{needs}
 use lib.ListN.{take, length-take}
-use Rattle.check_refusals.specs.Refusals.{Verdict, accepted, onAccepted}
+use Rattle.check_verdicts.specs.Verdicts.{Verdict, accepted, onAccepted}
 use Rattle.block_check.specs.Blocks.{countOf, numberIn, recordsIn, readVerdict}
 use Rattle.block_check.specs.Told.{blockSays}
 use Rattle.block_check.proofs.Verdicts.{refused-too, accepted-too}

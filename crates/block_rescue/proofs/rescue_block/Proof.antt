@@ -8,7 +8,7 @@ use lib.ListN.{length, take, drop, replicate, length-take, length-drop}
 use lib.Seq.{take-at}
 use Rattle.law_lists.specs.Places.{part}
 use Rattle.law_lists.proofs.Parts.{part-of-first}
-use Rattle.check_refusals.specs.Refusals.{Verdict, accepted, refused, unlessRefused, onAccepted}
+use Rattle.check_verdicts.specs.Verdicts.{Verdict, accepted, refused, unlessRefused, onAccepted}
 use Rattle.block_numbers.specs.Words.{wordBytes}
 use Rattle.block_check.specs.Blocks.{numberIn, sumBytes}
 use Rattle.block_check.proofs.Verdicts.{MadeFrom, refused-too, accepted-too}

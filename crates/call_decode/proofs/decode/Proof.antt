@@ -2,10 +2,12 @@
 use mathlib.Core.Path.{_≡_, sym, _∙_, ap}
 use borrow.Author.Needs.{needs}
 use lib.ListN.{length}
-use Rattle.check_refusals.specs.Refusals.{accepted, noFault, says, sideChecks, sideSays}
-use Rattle.check_refusals.proofs.Sides.{sound-side}
+use Rattle.check_verdicts.specs.Verdicts.{accepted, noFault}
+use Rattle.check_refusals.specs.Refusals.{says}
+use Rattle.check_side.specs.Sides.{sideChecks, sideSays}
+use Rattle.check_side.proofs.Sides.{sound-side}
 use Rattle.check_frame.specs.Frames.{frameOf, frameSays}
-use Rattle.row_bands.specs.declared.row.Row.{Row}
+use Rattle.row_bands.specs.declared.Row.{Row}
 use Rattle.check_frame.proofs.Frames.{sound-row}
 use Rattle.call_decode.specs.Decoder.{rowDecoded}
 use Rattle.call_decode.proofs.DecodeVerdict.{frame-refused, frame-passed, refused-spectrum, accepted-spectrum}

@@ -6,7 +6,7 @@ use native.Mathlib.Omega.{arith}
 use borrow.Author.Needs.{needs}
 use lib.ListN.{length, take, drop, length-drop}
 use lib.Seq.{length-take-le}
-use Rattle.check_refusals.proofs.Sides.{none-over}
+use Rattle.check_limits.proofs.Stands.{none-over}
 use Rattle.row_bands.proofs.Bands.{Fits}
 use Rattle.call_decode.proofs.CountedFilters.{none-counted, one-counted, two-counted}
 use Rattle.call_decode.proofs.filters_decoded.Statement.{statement}

@@ -2,11 +2,12 @@
 use mathlib.Core.Path.{_≡_, sym, _∙_, ap, subst}
 use borrow.Author.Needs.{needs}
 use lib.ListN.{length}
-use Rattle.check_refusals.specs.Refusals.{accepted, says}
-use Rattle.row_bands.specs.Durations.{numbersOf, durationOf, weightingOf}
+use Rattle.check_verdicts.specs.Verdicts.{accepted}
+use Rattle.check_refusals.specs.Refusals.{says}
+use Rattle.row_durations.specs.Durations.{numbersOf, durationOf, weightingOf}
 use Rattle.row_bands.specs.Bands.{rowOf}
-use Rattle.row_bands.specs.declared.duration.Duration.{Duration}
-use Rattle.row_bands.specs.declared.row.Row.{Row}
+use Rattle.row_durations.specs.declared.Duration.{Duration}
+use Rattle.row_bands.specs.declared.Row.{Row}
 use Rattle.row_bands.proofs.Bands.{SoundRow}
 use Rattle.check_frame.specs.Frames.{frameOf, frameSays}
 use Rattle.check_frame.proofs.Frames.{sound-row}

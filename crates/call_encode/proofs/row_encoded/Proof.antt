@@ -1,7 +1,7 @@
 -- The side data are the definition's, and so are their bits and the lines that they leave.
 use mathlib.Core.Path.{sym, _∙_, ap, subst}
 use borrow.Author.Needs.{needs}
-use Rattle.check_refusals.specs.Refusals.{accepted}
+use Rattle.check_verdicts.specs.Verdicts.{accepted}
 use Rattle.side_data.specs.declared.SideData.{SideData}
 use Rattle.lattice_exact.specs.SideFilters.{filteredBy}
 use Rattle.shape_frame.specs.declared.frame.Found.{Found}

@@ -2,12 +2,14 @@
 use mathlib.Core.Path.{_≡_, refl, sym, _∙_, ap}
 use Prim.Native.Nat.{ℕ, zero, suc}
 use borrow.Author.Needs.{needs}
-use Rattle.check_refusals.specs.Refusals.{Verdict, accepted, refused, noFault, codeChecks, sideSays}
-use Rattle.check_refusals.proofs.Sides.{settle, codes-settle}
-use Rattle.row_bands.specs.Durations.{durationOf}
-use Rattle.row_bands.specs.declared.duration.Duration.{Duration}
-use Rattle.row_bands.specs.declared.duration.Duration.the-variants.{Ten, SevenPointFive}
-use Rattle.row_bands.specs.declared.row.Row.{Row}
+use Rattle.check_verdicts.specs.Verdicts.{Verdict, accepted, refused, noFault}
+use Rattle.check_side.specs.Sides.{codeChecks, sideSays}
+use Rattle.check_verdicts.proofs.Verdicts.{settle}
+use Rattle.check_side.proofs.Sides.{codes-settle}
+use Rattle.row_durations.specs.Durations.{durationOf}
+use Rattle.row_durations.specs.declared.Duration.{Duration}
+use Rattle.row_durations.specs.declared.Duration.the-variants.{Ten, SevenPointFive}
+use Rattle.row_bands.specs.declared.Row.{Row}
 use Rattle.check_frame.specs.Frames.{frameOf, frameChecks, lengthCheck}
 use Rattle.row_bands.specs.Bands.{rowOf}
 use Rattle.check_frame.proofs.check_frame.Statement.{statement}

@@ -4,9 +4,9 @@ use Prim.Native.Nat.{ℕ, _<_, _≤_}
 use native.Mathlib.Omega.{arith}
 use borrow.Author.Needs.{needs}
 use borrow.Author.Tests.{lt-ltb, le-ltb}
-use Rattle.check_refusals.specs.Refusals.{numbered, accepted, refused}
-use Rattle.row_bands.specs.Durations.{numbersOf}
-use Rattle.row_bands.specs.declared.duration.Duration.{Duration}
+use Rattle.check_verdicts.specs.Verdicts.{numbered, accepted, refused}
+use Rattle.row_durations.specs.Durations.{numbersOf}
+use Rattle.row_durations.specs.declared.Duration.{Duration}
 use Rattle.check_frame.specs.Frames.{lengthCheck}
 use Rattle.row_bands.specs.Bands.{rowOf, lastStop}
 use Rattle.check_frame.proofs.frame_of.Statement.{statement}

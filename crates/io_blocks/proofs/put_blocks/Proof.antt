@@ -10,7 +10,7 @@ use lib.ListN.{length, take, drop, length-take, length-drop, drop-of-length-le}
 use Rattle.io.specs.Counts.{Counts}
 use Rattle.law_lists.specs.Portions.{portions}
 use Rattle.law_lists.proofs.Portions.{portions-at, portions-none}
-use Rattle.check_refusals.specs.Refusals.{Fault, Verdict, accepted, refused}
+use Rattle.check_verdicts.specs.Verdicts.{Fault, Verdict, accepted, refused}
 use Rattle.file_narration.specs.Files.{whole, refusedAt, Outcome, nothing, before, goOn, runFrom}
 use Rattle.file_narration.proofs.ReadBack.{run-none}
 use Rattle.io_blocks.specs.Runs.{sizeOf, verdictOf, StepDone, blocksOf}

@@ -8,7 +8,7 @@ use lib.ListN.{length, take, drop, length-take, drop-of-length-le}
 use lib.Seq.{take-all}
 use Rattle.law_lists.specs.Portions.{portions}
 use Rattle.law_lists.proofs.Portions.{portions-at, portions-none}
-use Rattle.check_refusals.specs.Refusals.{Fault, accepted, refused, onAccepted}
+use Rattle.check_verdicts.specs.Verdicts.{Fault, accepted, refused, onAccepted}
 use Rattle.block_check.specs.Blocks.{numberIn}
 use Rattle.block_check.proofs.Verdicts.{refused-too, accepted-too}
 use Rattle.block_rescue.specs.Rescue.{keptVerdict, rescueSays}

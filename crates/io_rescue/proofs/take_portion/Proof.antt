@@ -6,7 +6,7 @@ use native.Mathlib.Numerals.{add-one}
 use native.Mathlib.Omega.{arith}
 use borrow.Author.Needs.{needs}
 use lib.ListN.{length}
-use Rattle.check_refusals.specs.Refusals.{Fault, numbered, numberOf, Verdict, accepted, refused, unlessRefused}
+use Rattle.check_verdicts.specs.Verdicts.{Fault, numbered, numberOf, Verdict, accepted, refused, unlessRefused}
 use Rattle.block_check.specs.Told.{blockFault}
 use Rattle.block_check.specs.declared.check.BlockRefusal.{BlockRefusal}
 use Rattle.block_check.specs.declared.check.BlockRefusal.the-variants.{Length, Sums, Layout, Record}

@@ -3,7 +3,7 @@ use mathlib.Core.Path.{_≡_, _∙_}
 use mathlib.Core.List.{List}
 use borrow.Author.Needs.{needs}
 use lib.Ieee.{Float}
-use Rattle.row_bands.specs.declared.row.Band.{Band}
+use Rattle.row_bands.specs.declared.Band.{Band}
 use Rattle.law_lists.specs.Places.{tab}
 use Rattle.shape_lags.specs.Autocorrelation.{normalizedLag, autocorrelation, lowest, middle, highest}
 use Rattle.shape_lags.proofs.autocorrelated.Statement.{statement}

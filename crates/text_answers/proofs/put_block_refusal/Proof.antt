@@ -3,7 +3,7 @@ use mathlib.Core.List.{_++_}
 use native.Mathlib.Omega.{arith}
 use Rattle.io_streams.specs.Text.{ascii, decimal}
 use Rattle.io_streams.proofs.Texts.{puts-on}
-use Rattle.check_refusals.specs.Refusals.{numbered, refused}
+use Rattle.check_verdicts.specs.Verdicts.{numbered, refused}
 use Rattle.text_answers.specs.Wording.{answerText}
 use borrow.Author.Needs.{needs}
 use Rattle.text_answers.proofs.put_block_refusal.Statement.{statement}

@@ -4,7 +4,7 @@ use mathlib.Core.List.{append-nil}
 use Prim.Native.Nat.{ℕ, _<_, _≤_}
 use borrow.Author.Needs.{needs}
 use borrow.Author.Tests.{lt-ltb, le-ltb}
-use Rattle.check_refusals.specs.Refusals.{Fault, numbered}
+use Rattle.check_verdicts.specs.Verdicts.{Fault, numbered}
 use Rattle.io_streams.proofs.Texts.{puts-same}
 use Rattle.file_rescued.specs.Rescues.{dropped, stray, leftEntries}
 use Rattle.text_report.specs.ReportText.{entryText, reportText}

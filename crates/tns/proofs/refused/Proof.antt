@@ -2,7 +2,8 @@
 use mathlib.Core.Path.{_≡_, _∙_}
 use Prim.Native.Nat.{ℕ}
 use borrow.Author.Needs.{needs}
-use Rattle.check_refusals.specs.Refusals.{placed, refused, numberOf, placeOf, foundOf, noBits, says}
+use Rattle.check_verdicts.specs.Verdicts.{placed, refused, numberOf, placeOf, foundOf, noBits}
+use Rattle.check_refusals.specs.Refusals.{says}
 use Rattle.check_refusals.specs.declared.Refusal.{Refusal}
 use Rattle.tns.specs.Answers.{answerFor}
 use Rattle.tns.proofs.refused.Statement.{statement}

@@ -3,7 +3,8 @@ use mathlib.Core.Path.{_≡_, sym, _∙_, ap, subst}
 use mathlib.Core.List.{List}
 use Prim.Native.Nat.{ℕ, _≤_}
 use borrow.Author.Needs.{needs}
-use Rattle.check_refusals.specs.Refusals.{Verdict, accepted, refused, placeOf, ofFault, itsBits, says}
+use Rattle.check_verdicts.specs.Verdicts.{Verdict, accepted, refused, placeOf, ofFault, itsBits}
+use Rattle.check_refusals.specs.Refusals.{says}
 use Rattle.cost_call.specs.Cost.{costOf, costSays}
 use Rattle.cost_call.proofs.Costs.{cost-at-most}
 use Rattle.tns.specs.Answers.{answerFor}

@@ -3,7 +3,8 @@ use mathlib.Core.Path.{_≡_, sym, _∙_, ap, subst}
 use Prim.Native.Nat.{_≤_}
 use borrow.Author.Needs.{needs}
 use lib.ListN.{length}
-use Rattle.check_refusals.specs.Refusals.{Verdict, refused, noFault, placeOf, ofFault, noBits, says}
+use Rattle.check_verdicts.specs.Verdicts.{Verdict, refused, noFault, placeOf, ofFault, noBits}
+use Rattle.check_refusals.specs.Refusals.{says}
 use Rattle.call_decode.specs.Decoder.{decodeChecks, decodeSays}
 use Rattle.tns.specs.Answers.{answerFor}
 use Rattle.tns.proofs.Small.{decode-place}

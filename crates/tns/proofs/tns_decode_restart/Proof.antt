@@ -3,7 +3,7 @@ use mathlib.Core.Path.{sym, _∙_, ap, subst}
 use Prim.Native.Nat.{_≤_}
 use borrow.Author.Needs.{needs}
 use lib.ListN.{length}
-use Rattle.check_refusals.specs.Refusals.{Verdict, placeOf, ofFault, noBits}
+use Rattle.check_verdicts.specs.Verdicts.{Verdict, placeOf, ofFault, noBits}
 use Rattle.tns.specs.Answers.{answerFor}
 use Rattle.tns.proofs.Small.{line-place}
 use Rattle.tns.proofs.tns_decode_restart.Statement.{statement}

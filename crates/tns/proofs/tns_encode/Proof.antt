@@ -2,7 +2,8 @@
 use mathlib.Core.Path.{_≡_, sym, _∙_, ap, subst}
 use Prim.Native.Nat.{ℕ, _≤_}
 use borrow.Author.Needs.{needs}
-use Rattle.check_refusals.specs.Refusals.{Verdict, accepted, refused, ofFault, placeOf, bitsIn, itsBits, says}
+use Rattle.check_verdicts.specs.Verdicts.{Verdict, accepted, refused, ofFault, placeOf, bitsIn, itsBits}
+use Rattle.check_refusals.specs.Refusals.{says}
 use Rattle.call_encode.specs.Encoder.{encodeVerdict, bitsVerdict, encodeSays}
 use Rattle.tns.specs.Answers.{answerFor}
 use Rattle.tns.specs.declared.Answer.{Answer}

@@ -2,7 +2,7 @@
 use mathlib.Core.Path.{sym, _∙_, ap, subst}
 use Prim.Native.Nat.{_≤_}
 use borrow.Author.Needs.{needs}
-use Rattle.check_refusals.specs.Refusals.{placeOf, ofFault, noBits}
+use Rattle.check_verdicts.specs.Verdicts.{placeOf, ofFault, noBits}
 use Rattle.call_decode.specs.Restart.{lineAnswerSays}
 use Rattle.call_decode.specs.declared.at_line.LineAnswer.{LineAnswer}
 use Rattle.tns.specs.Answers.{answerFor}

@@ -5,7 +5,7 @@ use Prim.Native.Nat.{ℕ, _<_, _≤_}
 use native.Mathlib.Omega.{arith}
 use borrow.Author.Needs.{needs}
 use lib.ListN.{length, take, length-take}
-use Rattle.check_refusals.specs.Refusals.{Verdict, onAccepted}
+use Rattle.check_verdicts.specs.Verdicts.{Verdict, onAccepted}
 use Rattle.block_check.specs.Blocks.{countOf, blockVerdict, readVerdict}
 use Rattle.block_check.proofs.Verdicts.{too-short, too-many, some-bytes, no-bytes}
 use Rattle.block_check.proofs.check.check_block.Statement.{statement}

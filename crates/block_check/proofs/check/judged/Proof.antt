@@ -6,7 +6,7 @@ use Prim.Native.Nat.{ℕ, _≤_}
 use borrow.Author.Needs.{needs}
 use borrow.Author.Tests.{not-true, not-false}
 use lib.ListN.{length}
-use Rattle.check_refusals.specs.Refusals.{Verdict, onAccepted}
+use Rattle.check_verdicts.specs.Verdicts.{Verdict, onAccepted}
 use Rattle.block_check.specs.Blocks.{countOf, sumsRight, headerRight, numberRight, fillRight, blockVerdict}
 use Rattle.block_check.proofs.Verdicts.{byTests, tested, few-records}
 use Rattle.block_check.proofs.check.judged.Statement.{statement}

@@ -5,7 +5,7 @@ use mathlib.Core.List.{List}
 use Prim.Native.Nat.{ℕ}
 use native.Mathlib.Omega.{arith}
 use borrow.Author.Needs.{needs}
-use Rattle.check_refusals.specs.Refusals.{accepted, check, onAccepted}
+use Rattle.check_verdicts.specs.Verdicts.{accepted, check, onAccepted}
 use Rattle.block_check.specs.Blocks.{countOf, recordsIn}
 use Rattle.block_check.proofs.Verdicts.{its-count}
 use Rattle.block_check.proofs.check.records_of.Statement.{statement}

@@ -9,7 +9,7 @@ use borrow.Author.Needs.{needs}
 use borrow.Author.Tests.{not-true, not-false}
 use lib.ListN.{length, take, length-take}
 use lib.Seq.{take-all}
-use Rattle.check_refusals.specs.Refusals.{accepted, onAccepted}
+use Rattle.check_verdicts.specs.Verdicts.{accepted, onAccepted}
 use Rattle.block_check.specs.Blocks.{countOf, countIn, soundRecords, blockBytes}
 use Rattle.block_write.specs.BlockCalls.{laidOver}
 use Rattle.block_check.proofs.Laid.{block-length, block-count}

@@ -2,8 +2,10 @@
 use mathlib.Core.Path.{_≡_, sym, _∙_, ap}
 use borrow.Author.Needs.{needs}
 use lib.ListN.{length}
-use Rattle.check_refusals.specs.Refusals.{accepted, noFault, says, sideChecks, sideSays}
-use Rattle.row_bands.specs.declared.row.Row.{Row}
+use Rattle.check_verdicts.specs.Verdicts.{accepted, noFault}
+use Rattle.check_refusals.specs.Refusals.{says}
+use Rattle.check_side.specs.Sides.{sideChecks, sideSays}
+use Rattle.row_bands.specs.declared.Row.{Row}
 use Rattle.check_frame.specs.Frames.{frameOf, frameSays}
 use Rattle.check_line.specs.Calls.{lineCallChecks, lineSays, lineCheckSays}
 use Rattle.check_line.proofs.Calls.{frame-fails, side-fails, line-decides, its-row}

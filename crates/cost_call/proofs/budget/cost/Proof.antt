@@ -5,13 +5,16 @@ use Prim.Native.Nat.{ℕ, _<_, _≤_}
 use borrow.Author.Needs.{needs}
 use borrow.Author.Tests.{lt-ltb, le-ltb}
 use lib.Dec.{ltb}
-use Rattle.check_refusals.specs.Refusals.{numbered, Verdict, accepted, noFault, refused, bitsIn, itsBits, says, check, sideChecks, sideSays}
+use Rattle.check_verdicts.specs.Verdicts.{numbered, Verdict, accepted, noFault, refused, bitsIn, itsBits, check}
+use Rattle.check_refusals.specs.Refusals.{says}
+use Rattle.check_side.specs.Sides.{sideChecks, sideSays}
 use Rattle.cost_call.specs.Cost.{costOf, costSays, countedBits, Priced}
 use Rattle.check_refusals.specs.declared.Refusal.{Refusal}
 use Rattle.check_refusals.specs.declared.Refusal.the-variants.{Weighting}
 use Rattle.cost_call.specs.declared.budget.CostAnswer.{CostAnswer}
 use Rattle.cost_call.specs.declared.budget.CostAnswer.the-variants.{Bits, Refused}
-use Rattle.check_refusals.proofs.Sides.{settle, sides-settle, sound-side}
+use Rattle.check_verdicts.proofs.Verdicts.{settle}
+use Rattle.check_side.proofs.Sides.{sides-settle, sound-side}
 use Rattle.cost_call.proofs.Costs.{cost-at-most}
 use Rattle.cost_call.proofs.budget.cost.Statement.{statement}
 use Rattle.cost_call.proofs.budget.cost.Tie as tie

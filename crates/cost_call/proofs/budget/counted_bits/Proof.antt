@@ -5,7 +5,7 @@ use native.Mathlib.Omega.{arith}
 use borrow.Author.Needs.{needs}
 use lib.ListN.{getD, take, drop}
 use Rattle.cost_call.specs.Cost.{countedBits, filterBits}
-use Rattle.check_refusals.proofs.Sides.{none-over}
+use Rattle.check_limits.proofs.Stands.{none-over}
 use Rattle.cost_call.proofs.Costs.{none-counted, one-counted, two-counted}
 use Rattle.cost_call.proofs.budget.counted_bits.Statement.{statement}
 use Rattle.cost_call.proofs.budget.counted_bits.Tie as tie

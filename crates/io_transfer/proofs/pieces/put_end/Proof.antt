@@ -3,7 +3,7 @@ use mathlib.Core.Path.{_≡_, ap, sym, _∙_}
 use Prim.Native.Nat.{ℕ}
 use native.Mathlib.Omega.{arith}
 use borrow.Author.Needs.{needs}
-use Rattle.check_refusals.specs.Refusals.{numberOf}
+use Rattle.check_verdicts.specs.Verdicts.{numberOf}
 use Rattle.block_check.specs.Told.{blockFault}
 use Rattle.io_streams.proofs.Texts.{puts-same, puts-none}
 use Rattle.text_answers.specs.Wording.{blockRefusalText}

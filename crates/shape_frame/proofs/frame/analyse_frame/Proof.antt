@@ -8,7 +8,7 @@ use borrow.Author.Needs.{needs}
 use Rattle.side_data.specs.Side.{bitsOf}
 use Rattle.side_data.specs.Limits.{Reported}
 use Rattle.side_data.specs.declared.SideData.{SideData}
-use Rattle.row_bands.specs.declared.row.Row.{Row}
+use Rattle.row_bands.specs.declared.Row.{Row}
 use Rattle.shape_frame.specs.FrameSide.{sideOf, frameFound}
 use Rattle.shape_frame.specs.declared.frame.Found.{Found}
 use Rattle.shape_frame.proofs.FrameLimits.{side-reported}

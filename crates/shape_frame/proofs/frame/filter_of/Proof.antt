@@ -6,7 +6,7 @@ use Prim.Native.Nat.{ℕ}
 use borrow.Author.Needs.{needs}
 use lib.Ieee.{Float}
 use lib.ListN.{replicate}
-use Rattle.row_bands.specs.declared.row.Band.{Band}
+use Rattle.row_bands.specs.declared.Band.{Band}
 use Rattle.law_rounding.specs.Floats.{f0}
 use Rattle.index_choice.specs.Quantizer.{indexOf, coefficientOf, orderOf, orderFrom, notAbove}
 use Rattle.shape_frame.specs.Analysis.{filterRecord, reflectionsOf}

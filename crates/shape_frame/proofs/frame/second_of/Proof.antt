@@ -6,7 +6,7 @@ use Prim.Native.Nat.{ℕ}
 use borrow.Author.Needs.{needs}
 use borrow.Author.Tests.{eq-eqb, ne-eqb}
 use lib.Ieee.{Float}
-use Rattle.row_bands.specs.declared.row.Row.{Row}
+use Rattle.row_bands.specs.declared.Row.{Row}
 use Rattle.side_data.specs.Quantized.{absent}
 use Rattle.shape_frame.specs.FrameSide.{filterOf, secondOf}
 use Rattle.shape_frame.proofs.frame.second_of.Statement.{statement}

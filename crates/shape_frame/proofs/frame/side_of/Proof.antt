@@ -5,7 +5,7 @@ use mathlib.Core.List.{List}
 use Prim.Native.Nat.{ℕ}
 use borrow.Author.Needs.{needs}
 use lib.Ieee.{Float}
-use Rattle.row_bands.specs.declared.row.Row.{Row}
+use Rattle.row_bands.specs.declared.Row.{Row}
 use Rattle.side_data.specs.declared.Quantized.{Quantized}
 use Rattle.side_data.specs.declared.SideData.{SideData}
 use Rattle.shape_frame.specs.FrameSide.{countOf, filterOf, secondOf, sideOf}

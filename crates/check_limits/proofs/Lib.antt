@@ -1,0 +1,4 @@
+-- The laws that belong to no one function.
+pub mod Lowest
+pub mod Stands
+pub mod Determined

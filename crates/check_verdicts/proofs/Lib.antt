@@ -1,0 +1,2 @@
+-- The laws of verdicts.
+pub mod Verdicts

@@ -1,0 +1,2 @@
+-- What a reader has to believe of verdicts.
+pub mod Verdicts

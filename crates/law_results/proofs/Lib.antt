@@ -1,0 +1,2 @@
+-- The law of results.
+pub mod Determined
