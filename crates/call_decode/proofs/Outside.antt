@@ -17,8 +17,9 @@ use Rattle.row_bands.proofs.Apart.{Outside}
 use Rattle.check_frame.proofs.Frames.{accepted-row}
 use Rattle.lattice_decoder.specs.DecoderLattice.{lineDecoded}
 use Rattle.lattice_rows.specs.Filters.{Filter}
-use Rattle.lattice_rows.proofs.Calls as calls
-use Rattle.call_decode.specs.Decoder.{decoderFilter, rowDecoded, decodeChecks, spectrumDecoded}
+use Rattle.lattice_rows.proofs.OutsideBands as calls
+use Rattle.side_decoded.specs.DecoderFilters.{decoderFilter, rowDecoded}
+use Rattle.call_decode.specs.Decoder.{decodeChecks, spectrumDecoded}
 
 module _ (duration bandwidth filters : ℕ) (orders indices : List ℕ) where
   abbrev row : Row

@@ -1,29 +1,17 @@
 -- The decode call: its answer, and the spectrum after it.
 use mathlib.Core.Path.{_≡_}
-use mathlib.Core.List.{List, map}
+use mathlib.Core.List.{List}
 use Prim.Native.Nat.{ℕ}
 use lib.ListN.{length}
 use lib.Ieee.{Float}
-use Rattle.law_lists.specs.Counted.{counted}
 use Rattle.check_verdicts.specs.Verdicts.{Verdict, refused, unlessRefused, noFault}
 use Rattle.check_refusals.specs.Refusals.{says}
-use Rattle.index_choice.specs.Quantizer.{coefficientOf}
 use Rattle.row_durations.specs.Durations.{durationOf}
 use Rattle.row_bands.specs.Bands.{rowOf}
-use Rattle.row_bands.specs.declared.Row.{Row}
-use Rattle.check_line.specs.Calls.{callChecks}
-use Rattle.lattice_decoder.specs.DecoderLattice.{lineDecoded}
-use Rattle.lattice_rows.specs.Filters.{Filter, filterWith, rowFiltered}
+use Rattle.check_line.specs.LineChecks.{callChecks}
+use Rattle.side_decoded.specs.DecoderFilters.{rowDecoded}
 use Rattle.call_decode.specs.declared.DecodeAnswer.{DecodeAnswer}
 use Rattle.call_decode.specs.declared.DecodeAnswer.the-variants.{Decoded, Refused}
-
--- a filter of the decoder, by its order and eight indices: the same seventeen coefficients stand for them as in the encoder
-abbrev pub decoderFilter : ℕ → List ℕ → Filter
-decoderFilter order indices = filterWith (map coefficientOf indices) order
-
--- the counted filters act on the row's bands in turn
-unfoldable pub rowDecoded : Row → ℕ → List ℕ → List ℕ → List Float → List Float
-rowDecoded row filters orders indices lines = rowFiltered lineDecoded row (counted decoderFilter filters orders indices) lines
 
 -- refusals 1 to 7, in number order
 unfoldable pub decodeChecks : ℕ → ℕ → ℕ → List ℕ → List ℕ → ℕ → Verdict (Unit {0})

@@ -1,3 +1,2 @@
--- What a reader has to believe of the decode call, and of save and restart.
+-- What a reader has to believe of the decode call.
 pub mod Decoder
-pub mod Restart

@@ -19,7 +19,7 @@ use Rattle.row_bands.proofs.Apart.{Outside, inside-length, inside-at}
 use Rattle.check_frame.specs.Frames.{frameChecks}
 use Rattle.check_frame.proofs.Frames.{accepted-row, same-result}
 use Rattle.lattice_encoder.specs.EncoderLattice.{lineEncoded}
-use Rattle.lattice_rows.proofs.Calls as calls
+use Rattle.lattice_rows.proofs.OutsideBands as calls
 use Rattle.shape_lags.specs.Autocorrelation.{autocorrelation}
 use Rattle.shape_frame.specs.Analysis.{filterRecord, reflectionsOf}
 use Rattle.side_data.specs.declared.SideData.{SideData}

@@ -15,57 +15,47 @@ use Rattle.row_durations.specs.Durations.{durationOf}
 use Rattle.row_bands.specs.Bands.{rowOf, bandOf}
 use Rattle.row_bands.specs.declared.Row.{Row}
 use Rattle.row_bands.proofs.Bands.{SoundRow}
-use Rattle.check_line.specs.Calls.{lineCallChecks}
-use Rattle.check_line.proofs.Calls.{ready}
+use Rattle.check_line.specs.CodedFrames.{CodedFrame, rowIn, checksAtLine}
+use Rattle.check_line.proofs.CodedFrames.{written}
+use Rattle.check_line.proofs.LineChecks.{PassedLine, passed-at-line}
 use Rattle.lattice_lines.specs.Lattice.{atRest}
 use Rattle.lattice_decoder.specs.DecoderLattice.{lineDecoded}
 use Rattle.lattice_rows.specs.Filters.{Filter, rowRun, rowFiltered}
 use Rattle.lattice_rows.specs.Split.{Begins, rowBelowLine}
 use Rattle.lattice_rows.proofs.EitherSide.{none-states, one-states, two-states, goes-on}
-use Rattle.call_decode.specs.Decoder.{decoderFilter, rowDecoded}
-use Rattle.call_decode.specs.Restart.{statesBefore, linesFrom, lineAnswerSays, Lent, Saves, Restarts}
-use Rattle.call_decode.specs.declared.at_line.LineAnswer.{LineAnswer}
-use Rattle.call_decode.proofs.LineVerdict.{written, decoded-too}
-use Rattle.call_mending.specs.Mended.{Frame, AgreeBelow, orderAt, indicesAt, decoded, Mended}
+use Rattle.side_decoded.specs.DecoderFilters.{decoderFilter, rowDecoded}
+use Rattle.side_split.specs.SplitRun.{statesBefore, linesFrom}
+use Rattle.call_decode.proofs.DecodedFrames.{row-as-spectrum}
+use Rattle.call_restart.specs.Restart.{lineAnswerSays, Lent}
+use Rattle.call_restart.specs.declared.LineAnswer.{LineAnswer}
+use Rattle.call_restart.proofs.SplitFrames.{SavesFrame, RestartsFrame}
+use Rattle.call_mending.specs.Mended.{AgreeBelow, orderAt, indicesAt, decoded, Mended}
 
--- ---- the promises of the two calls, and their checks, over a frame
-
-abbrev checksOf : Frame → ℕ → ℕ → Type 0
-checksOf f n output = lineCallChecks (f .duration) (f .bandwidth) (f .filters) (f .orders) (f .indices) (length (f .spectrum)) n output ≡ noFault
-
-abbrev pub SavesFrame : Frame → ℕ → Lent → Lent → LineAnswer → Type 0
-SavesFrame f n found left answer = Saves (f .duration) (f .bandwidth) (f .filters) (f .orders) (f .indices) (f .spectrum) n found left answer
-
-abbrev pub RestartsFrame : Frame → ℕ → List Float → List Float → List Float → LineAnswer → Type 0
-RestartsFrame f n states found left answer = Restarts (f .duration) (f .bandwidth) (f .filters) (f .orders) (f .indices) (f .spectrum) n states found left answer
-
-abbrev rowIn : Frame → Row
-rowIn f = rowOf (durationOf (f .duration)) (f .bandwidth)
-
-abbrev statesIn : Frame → ℕ → List Float
+-- the states of a frame before line n
+abbrev statesIn : CodedFrame → ℕ → List Float
 statesIn f n = statesBefore n (rowIn f) (f .filters) (f .orders) (f .indices) (f .spectrum)
 
 -- what an accepted save leaves is what the decode call leaves of the spectrum, and the states before the line
-pub saved-is-decoded : (f : Frame) (n : ℕ) (found left : Lent) (answer : LineAnswer) → SavesFrame f n found left answer → lineAnswerSays answer ≡ noFault
+pub saved-is-decoded : (f : CodedFrame) (n : ℕ) (found left : Lent) (answer : LineAnswer) → SavesFrame f n found left answer → lineAnswerSays answer ≡ noFault
     → (left .output ≡ decoded f) × (left .states ≡ statesBefore n (rowOf (durationOf (f .duration)) (f .bandwidth)) (f .filters) (f .orders) (f .indices) (f .spectrum))
 saved-is-decoded f n found left answer p e =
     let passes = sym (p .answer) ∙ e in
     (p .output ∙ rw passes, p .states ∙ rw passes)
 
-module _ (n : ℕ) (old new : Frame) (agree : AgreeBelow n old new) where
+module _ (n : ℕ) (old new : CodedFrame) (agree : AgreeBelow n old new) where
   abbrev row : Row
   row = rowIn new
 
-  abbrev filterAt : Frame → ℕ → Filter
+  abbrev filterAt : CodedFrame → ℕ → Filter
   filterAt f k = decoderFilter (orderAt f k) (indicesAt f k)
 
   same-filter : (k : ℕ) → k < new .filters → Begins n (bandOf row k) → filterAt old k ≡ filterAt new k
   same-filter k counts begins = let e = agree .filters k counts begins in rw (e .0, e .1)
 
-  abbrev statesBy : List Filter → Frame → List Float
+  abbrev statesBy : List Filter → CodedFrame → List Float
   statesBy filters f = rowRun lineDecoded (rowBelowLine n row) filters atRest (f .spectrum) .states
 
-  abbrev counts : Frame → ℕ → List Filter
+  abbrev counts : CodedFrame → ℕ → List Filter
   counts f count = counted decoderFilter count (f .orders) (f .indices)
 
   by-lists : (count : ℕ) (fs gs : List Filter) → counts old count ≡ fs → counts new count ≡ gs → statesBy fs old ≡ statesBy gs new
@@ -95,30 +85,31 @@ module _ (n : ℕ) (old new : Frame) (agree : AgreeBelow n old new) where
       cases (suc (suc (suc count))) e h = absurd (not-suc-le-zero (le-of-suc-le-suc (le-of-suc-le-suc h)))
 
   -- from the states at the line the new frame's run goes on as it does from its start
-  lines-go-on : (output : ℕ) → checksOf new n output
+  lines-go-on : (output : ℕ) → PassedLine new row n output
       → linesFrom n row (new .filters) (new .orders) (new .indices) (statesIn new n) (new .spectrum) ≡ drop n (decoded new)
   unfolding linesFrom statesBefore rowDecoded rowFiltered
-  lines-go-on output passes =
-      let r = ready (new .duration) (new .bandwidth) (new .filters) (new .orders) (new .indices) (length (new .spectrum)) n output passes in
+  lines-go-on output p =
+      let r = p .ready in
       goes-on lineDecoded n row (r .in-turn) atRest (new .spectrum) (r .bands) (r .there) (counted decoderFilter (new .filters) (new .orders) (new .indices))
-      ∙ ap (drop n) (decoded-too (new .duration) (new .bandwidth) (new .filters) (new .orders) (new .indices) (new .spectrum) n output passes)
+      ∙ ap (drop n) (row-as-spectrum new (p .frame))
 
   -- the old frame's states are saved before line n, and the new frame is restarted there from them
   pub mended : (lent-found lent-left : Lent) (saved : LineAnswer) → SavesFrame old n lent-found lent-left saved → lineAnswerSays saved ≡ noFault
       → (found left : List Float) (answer : LineAnswer) → RestartsFrame new n (lent-left .states) found left answer → lineAnswerSays answer ≡ noFault
       → Mended n new found left
   mended lent-found lent-left saved s es found left answer r er =
-      let passes = sym (r .answer) ∙ er in
-      let known = ready (new .duration) (new .bandwidth) (new .filters) (new .orders) (new .indices) (length (new .spectrum)) n (length found) passes in
+      let no-fault : noFault ≡ checksAtLine new n (length found) = sym er ∙ r .answer in
+      let passed = passed-at-line new n (length found) no-fault in
+      let known = passed .ready in
       let states : lent-left .states ≡ statesIn new n =
       saved-is-decoded old n lent-found lent-left saved s es .1 ∙ same-states (known .bands) (known .side-data .count-at-most-2)
       in
       let lines : linesFrom n row (new .filters) (new .orders) (new .indices) (lent-left .states) (new .spectrum) ≡ drop n (decoded new) =
-      ap (λ (l : List Float). linesFrom n row (new .filters) (new .orders) (new .indices) l (new .spectrum)) states ∙ lines-go-on (length found) passes
+      ap (λ (l : List Float). linesFrom n row (new .filters) (new .orders) (new .indices) l (new .spectrum)) states ∙ lines-go-on (length found) passed
       in
       let output : left ≡ take n found ++ drop n (decoded new) =
       r .output
-      ∙ sym (written (new .duration) (new .bandwidth) (new .filters) (new .orders) (new .indices) (new .spectrum) n (length found) passes _ found)
+      ∙ sym (written no-fault _ found)
       ∙ ap (λ (l : List Float). take n found ++ l) lines
       in
       let taken : length (take n found) ≡ n = length-take-le n found (omega (arith, known .as-long, known .there)) in
@@ -129,7 +120,7 @@ module _ (n : ℕ) (old new : Frame) (agree : AgreeBelow n old new) where
 
 -- ---- the case to get right: at the second band's start the second filter may be another, since its band does not begin below the line
 
-pub at-second-start : (old new : Frame) → length (old .spectrum) ≡ length (new .spectrum) → old .duration ≡ new .duration → old .bandwidth ≡ new .bandwidth
+pub at-second-start : (old new : CodedFrame) → length (old .spectrum) ≡ length (new .spectrum) → old .duration ≡ new .duration → old .bandwidth ≡ new .bandwidth
     → old .filters ≡ new .filters
     → let n = bandOf (rowOf (durationOf (new .duration)) (new .bandwidth)) 1 .start in
     take n (old .spectrum) ≡ take n (new .spectrum) → orderAt old 0 ≡ orderAt new 0 → indicesAt old 0 ≡ indicesAt new 0 → AgreeBelow n old new

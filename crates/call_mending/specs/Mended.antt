@@ -6,28 +6,20 @@ use lib.Ieee.{Float}
 use lib.ListN.{length, getD, take, drop}
 use Rattle.row_durations.specs.Durations.{durationOf}
 use Rattle.row_bands.specs.Bands.{rowOf, bandOf}
+use Rattle.check_line.specs.CodedFrames.{CodedFrame}
 use Rattle.lattice_rows.specs.Split.{Begins}
 use Rattle.call_decode.specs.Decoder.{spectrumDecoded}
 
--- what a decode call is given
-pub record Frame : Type 0 where
-  pub duration : ℕ
-  pub bandwidth : ℕ
-  pub filters : ℕ
-  pub orders : List ℕ
-  pub indices : List ℕ
-  pub spectrum : List Float
-
 -- the order and the indices of filter k
-abbrev pub orderAt : Frame → ℕ → ℕ
+abbrev pub orderAt : CodedFrame → ℕ → ℕ
 orderAt frame k = getD (frame .orders) k 0
 
-abbrev pub indicesAt : Frame → ℕ → List ℕ
+abbrev pub indicesAt : CodedFrame → ℕ → List ℕ
 indicesAt frame k = take 8 (drop (8 * k) (frame .indices))
 
 -- The frames agree on length, duration, bandwidth, filter count, all lines below n, and the orders and indices of every filter whose band begins below
 -- n. A filter without a band, and one that is not counted, may be anything.
-pub record AgreeBelow (n : ℕ) (old new : Frame) : Type 0 where
+pub record AgreeBelow (n : ℕ) (old new : CodedFrame) : Type 0 where
   pub lengths : length (old .spectrum) ≡ length (new .spectrum)
   pub durations : old .duration ≡ new .duration
   pub bandwidths : old .bandwidth ≡ new .bandwidth
@@ -37,10 +29,10 @@ pub record AgreeBelow (n : ℕ) (old new : Frame) : Type 0 where
       → (orderAt old k ≡ orderAt new k) × (indicesAt old k ≡ indicesAt new k)
 
 -- what a fresh run of a frame leaves
-abbrev pub decoded : Frame → List Float
+abbrev pub decoded : CodedFrame → List Float
 decoded frame = spectrumDecoded (frame .duration) (frame .bandwidth) (frame .filters) (frame .orders) (frame .indices) (frame .spectrum)
 
 -- The output of the restart: from line n on what a fresh run of the new frame leaves, and below it what was there before.
-pub record Mended (n : ℕ) (new : Frame) (found left : List Float) : Type 0 where
+pub record Mended (n : ℕ) (new : CodedFrame) (found left : List Float) : Type 0 where
   pub from-line : drop n left ≡ drop n (decoded new)
   pub below-line : take n left ≡ take n found

@@ -23,8 +23,9 @@ use Rattle.side_data.specs.declared.Quantized.{Quantized}
 use Rattle.side_data.specs.declared.SideData.{SideData}
 use Rattle.lattice_exact.proofs.NearFrames.{OfTable}
 use Rattle.shape_frame.specs.FrameSide.{hasSecond, sideOf}
-use Rattle.call_decode.specs.Decoder.{decoderFilter, rowDecoded, decodeChecks, spectrumDecoded}
-use Rattle.call_decode.proofs.DecodeVerdict.{accepted-spectrum}
+use Rattle.side_decoded.specs.DecoderFilters.{decoderFilter, rowDecoded}
+use Rattle.call_decode.specs.Decoder.{decodeChecks, spectrumDecoded}
+use Rattle.call_decode.proofs.DecodedFrames.{accepted-spectrum}
 use Rattle.call_encode.specs.Encoder.{weightingIn, encodeVerdict}
 use Rattle.call_encode.proofs.NearFound.{filter-of-table, second-of-table}
 use Rattle.call_encode.proofs.Reported.{reported-sound, sound-passes}

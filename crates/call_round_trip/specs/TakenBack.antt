@@ -14,7 +14,8 @@ use Rattle.lattice_rows.specs.Filters.{Filter, rowFiltered}
 use Rattle.side_data.specs.Side.{ordersIn, indicesIn, coefficientsIn}
 use Rattle.side_data.specs.declared.SideData.{SideData}
 use Rattle.lattice_exact.specs.SideFilters.{filtersIn}
-use Rattle.call_decode.specs.Decoder.{decoderFilter, decodeChecks, spectrumDecoded}
+use Rattle.side_decoded.specs.DecoderFilters.{decoderFilter}
+use Rattle.call_decode.specs.Decoder.{decodeChecks, spectrumDecoded}
 
 -- the sixteen coefficients that the decoder takes the sixteen indices for, used or not: the first filter's, then the second's
 abbrev pub coefficientsTaken : SideData → List Float

@@ -10,7 +10,7 @@ use Rattle.check_verdicts.specs.Verdicts.{Fault, numbered, placed, Verdict, acc
 use Rattle.check_refusals.specs.Refusals.{says}
 use Rattle.check_refusals.proofs.Eight.{refusalBack, of-eight}
 use Rattle.law_results.proofs.Determined.{Determined, coincide}
-use Rattle.check_line.specs.Calls.{lineSays, lineCheckSays}
+use Rattle.check_line.specs.LineChecks.{lineSays, lineCheckSays}
 use Rattle.check_line.specs.declared.LineRefusal.{LineRefusal}
 use Rattle.check_line.specs.declared.LineRefusal.the-variants.{Call, Line, OutputLength}
 use Rattle.check_line.specs.declared.LineCheck.{LineCheck}

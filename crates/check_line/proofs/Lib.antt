@@ -1,3 +1,4 @@
 -- The laws that belong to no one function.
-pub mod Calls
+pub mod CodedFrames
+pub mod LineChecks
 pub mod Determined

@@ -1,2 +1,3 @@
 -- What a reader has to believe of the checks of the decode calls.
-pub mod Calls
+pub mod LineChecks
+pub mod CodedFrames

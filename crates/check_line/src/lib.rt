@@ -4,7 +4,7 @@ use check_refusals::Refusal;
 use row_bands::Row;
 ghost use mathlib.Core.Path.{_≡_};
 ghost use Rattle.check_verdicts.specs.Verdicts.{noFault};
-ghost use Rattle.check_line.specs.Calls.{lineChecks, lineCheckSays};
+ghost use Rattle.check_line.specs.LineChecks.{lineChecks, lineCheckSays};
 
 // Why a call at a line is refused: as any decode call, by its line, which lies outside the row, or by
 // its output, which has another length than its spectrum.

@@ -17,7 +17,8 @@ use Rattle.check_frame.specs.Frames.{frameChecks}
 use Rattle.lattice_lines.specs.Lattice.{linesBy, statesBy}
 use Rattle.lattice_decoder.specs.DecoderLattice.{stageDown, stagesBelow, lineDecoded}
 use Rattle.lattice_rows.specs.Filters.{bandsRun, rowFiltered}
-use Rattle.call_decode.specs.Decoder.{rowDecoded, decodeChecks, spectrumDecoded}
+use Rattle.side_decoded.specs.DecoderFilters.{rowDecoded}
+use Rattle.call_decode.specs.Decoder.{decodeChecks, spectrumDecoded}
 
 abbrev after : List Float
 after = spectrumDecoded 0 0 1 (1 ∷ 0 ∷ []) (0 ∷ replicate 15 8) (replicate 80 f1)

@@ -17,7 +17,7 @@ use Rattle.row_bands.proofs.Bands.{Fits, SoundRow}
 use Rattle.row_bands.proofs.Apart.{InTurn}
 use Rattle.lattice_lines.specs.Lattice.{Lattice}
 use Rattle.lattice_lines.proofs.BandLines.{by-length}
-use Rattle.lattice_rows.specs.Filters.{Filter, Run, bandsRun, rowRun}
+use Rattle.lattice_rows.specs.Filters.{Filter, LinesAndStates, bandsRun, rowRun}
 use Rattle.lattice_rows.specs.Split.{bandBelowLine, bandFromLine, rowBelowLine, rowFromLine, Begins}
 use Rattle.lattice_rows.proofs.Filters.{change}
 use Rattle.lattice_rows.proofs.Split.{below-fits, from-fits, done-length, from-z, None, acted, acted-none, acted-length, beyond, row-in-two}
@@ -59,11 +59,11 @@ module _ (n a z : ℕ) (order : a ≤ z) (to : z ≤ n) (xs : List Float) (end :
 -- ---- one filter
 
 -- two runs that are the same below the line, and two that are the same from it on
-pub record SameBelow (n : ℕ) (r t : Run) : Type 0 where
+pub record SameBelow (n : ℕ) (r t : LinesAndStates) : Type 0 where
   pub lines : take n (r .lines) ≡ take n (t .lines)
   pub states : r .states ≡ t .states
 
-pub record SameFrom (n : ℕ) (r t : Run) : Type 0 where
+pub record SameFrom (n : ℕ) (r t : LinesAndStates) : Type 0 where
   pub lines : drop n (r .lines) ≡ drop n (t .lines)
   pub states : r .states ≡ t .states
 
@@ -79,7 +79,7 @@ module _ (lattice : Lattice) (n : ℕ) (band : Band) where
     | no high ↦ beyond lattice n band (fits .order) (omega arith) .0
   ]
 
-  acted-below : (f g : Filter) (r t : Run) → Fits band (length (r .lines)) → Fits band (length (t .lines)) → (Begins n band → f ≡ g) → SameBelow n r t
+  acted-below : (f g : Filter) (r t : LinesAndStates) → Fits band (length (r .lines)) → Fits band (length (t .lines)) → (Begins n band → f ≡ g) → SameBelow n r t
       → SameBelow n (acted lattice (bandBelowLine n band) f r) (acted lattice (bandBelowLine n band) g t)
   acted-below f g r t fr ft agree same = elim (decLt (band .start) n) [
     | yes low ↦
@@ -112,7 +112,7 @@ module _ (lattice : Lattice) (n : ℕ) (band : Band) where
             states = rw (sym (part-of-first a z n (r .lines) to), sym (part-of-first a z n (t .lines) to), same .lines, same .states, e);
           }
 
-  acted-from : (f : Filter) (r t : Run) → Fits band (length (r .lines)) → Fits band (length (t .lines)) → n ≤ length (r .lines) → n ≤ length (t .lines)
+  acted-from : (f : Filter) (r t : LinesAndStates) → Fits band (length (r .lines)) → Fits band (length (t .lines)) → n ≤ length (r .lines) → n ≤ length (t .lines)
       → SameFrom n r t → SameFrom n (acted lattice (bandFromLine n band) f r) (acted lattice (bandFromLine n band) f t)
   acted-from f r t fr ft hr ht same =
       let a = max n (band .start) in
@@ -132,13 +132,13 @@ module _ (lattice : Lattice) (n : ℕ) (band : Band) where
       }
 
   -- neither side writes to the other
-  kept-below : (f : Filter) (r : Run) → Fits band (length (r .lines)) → n ≤ length (r .lines)
+  kept-below : (f : Filter) (r : LinesAndStates) → Fits band (length (r .lines)) → n ≤ length (r .lines)
       → take n (acted lattice (bandFromLine n band) f r .lines) ≡ take n (r .lines)
   kept-below f r fits h =
       let b = from-fits n band (length (r .lines)) fits h in
       lines-below-stay n (max n (band .start)) (max n (band .stop)) (omega arith) (b .order) (r .lines) (omega (arith, b .order, b .end)) (change lattice f (r .states))
 
-  kept-from : (f : Filter) (r : Run) → Fits band (length (r .lines)) → drop n (acted lattice (bandBelowLine n band) f r .lines) ≡ drop n (r .lines)
+  kept-from : (f : Filter) (r : LinesAndStates) → Fits band (length (r .lines)) → drop n (acted lattice (bandBelowLine n band) f r .lines) ≡ drop n (r .lines)
   kept-from f r fits =
       let b = below-fits n band (length (r .lines)) fits in
       lines-from-stay n (min n (band .start)) (min n (band .stop)) (b .order) (omega arith) (r .lines) (b .end) (change lattice f (r .states)) (by-length lattice _ _ _ _)
@@ -146,7 +146,7 @@ module _ (lattice : Lattice) (n : ℕ) (band : Band) where
 -- ---- the filters of a row
 
 module _ (lattice : Lattice) (n : ℕ) (row : Row) where
-  abbrev going : List Float → List Float → Run
+  abbrev going : List Float → List Float → LinesAndStates
   going states lines = record { lines = lines; states = states }
 
   -- a band fits the lines that a part of the other one's filter leaves
@@ -240,4 +240,4 @@ module _ (lattice : Lattice) (n : ℕ) (row : Row) (turn : InTurn (row .first) (
       let long = below-long filters in
       same-rest lattice n row (at-line .states) xs (at-line .lines) sound (subst (λ (k : ℕ). SoundRow row k) (sym long) sound) there (omega (arith, long))
       (sym (rest-stay lattice n row s xs sound filters)) filters
-      ∙ ap (λ (r : Run). drop n (r .lines)) (row-in-two lattice n row turn s xs sound there filters)
+      ∙ ap (λ (r : LinesAndStates). drop n (r .lines)) (row-in-two lattice n row turn s xs sound there filters)

@@ -17,7 +17,7 @@ use Rattle.row_bands.proofs.Bands.{Fits, SoundRow}
 use Rattle.row_bands.proofs.Apart.{InTurn, within-length}
 use Rattle.lattice_lines.specs.Lattice.{Lattice}
 use Rattle.lattice_lines.proofs.BandLines.{by-length, by-parts, states-by-parts}
-use Rattle.lattice_rows.specs.Filters.{Filter, Run, bandsRun, rowRun, FilteredRow}
+use Rattle.lattice_rows.specs.Filters.{Filter, LinesAndStates, bandsRun, rowRun, FilteredRow}
 use Rattle.lattice_rows.specs.Split.{bandBelowLine, bandFromLine, rowBelowLine, rowFromLine}
 use Rattle.lattice_rows.proofs.Filters.{change, leaves, no-lines}
 
@@ -86,21 +86,21 @@ abbrev pub None : Band → Type 0
 None band = band .stop ≡ band .start
 
 module _ (lattice : Lattice) where
-  abbrev pub acted : Band → Filter → Run → Run
+  abbrev pub acted : Band → Filter → LinesAndStates → LinesAndStates
   acted band f run =
       record { lines = within band (change lattice f (run .states)) (run .lines); states = leaves lattice f (run .states) (inside band (run .lines)) }
 
-  acted-same : (a b : Band) → Same a b → (f : Filter) (run : Run) → acted a f run ≡ acted b f run
+  acted-same : (a b : Band) → Same a b → (f : Filter) (run : LinesAndStates) → acted a f run ≡ acted b f run
   acted-same a b e f run = rw (e .start, e .stop)
 
   -- no line goes through the lattice
-  pub acted-none : (band : Band) → None band → (f : Filter) (run : Run) → acted band f run ≡ run
+  pub acted-none : (band : Band) → None band → (f : Filter) (run : LinesAndStates) → acted band f run ≡ run
   acted-none band e f run =
       let stays = no-lines lattice band (sym e) f (run .states) (run .lines) in
       ap (λ (l : List Float). record { lines = l; states = leaves lattice f (run .states) (inside band (run .lines)) }) (sym (stays .lines))
       ∙ ap (λ (s : List Float). record { lines = run .lines; states = s }) (sym (stays .states))
 
-  pub acted-length : (band : Band) (f : Filter) (run : Run) → Fits band (length (run .lines)) → length (acted band f run .lines) ≡ length (run .lines)
+  pub acted-length : (band : Band) (f : Filter) (run : LinesAndStates) → Fits band (length (run .lines)) → length (acted band f run .lines) ≡ length (run .lines)
   acted-length band f run fits = within-length band (change lattice f (run .states)) (run .lines) fits (by-length lattice _ _ _ _)
 
   module _ (n : ℕ) where
@@ -112,7 +112,7 @@ module _ (lattice : Lattice) where
     before band order h = (record { start = omega arith; stop = omega arith }, omega arith)
 
     -- in a band that the line cuts
-    between : (band : Band) (f : Filter) (run : Run) → n ≤ length (run .lines) → band .start ≤ n → n ≤ band .stop
+    between : (band : Band) (f : Filter) (run : LinesAndStates) → n ≤ length (run .lines) → band .start ≤ n → n ≤ band .stop
         → acted (bandFromLine n band) f (acted (bandBelowLine n band) f run) ≡ acted band f run
     between band f run there from to =
         let xs = run .lines in
@@ -135,7 +135,7 @@ module _ (lattice : Lattice) where
         rw (e1, e2, e3, e4) cc
 
     -- whatever the line, a filter acts in two parts as it acts in one
-    acted-in-two : (band : Band) (f : Filter) (run : Run) → Fits band (length (run .lines)) → n ≤ length (run .lines)
+    acted-in-two : (band : Band) (f : Filter) (run : LinesAndStates) → Fits band (length (run .lines)) → n ≤ length (run .lines)
         → acted (bandFromLine n band) f (acted (bandBelowLine n band) f run) ≡ acted band f run
     acted-in-two band f run fits there = elim (decLt n (band .start)) [
       | yes early ↦
@@ -151,22 +151,22 @@ module _ (lattice : Lattice) where
     ]
 
     -- and so do two, each in its own band
-    module _ (row : Row) (turn : InTurn (row .first) (row .second)) (f g : Filter) (run : Run) (sound : SoundRow row (length (run .lines)))
+    module _ (row : Row) (turn : InTurn (row .first) (row .second)) (f g : Filter) (run : LinesAndStates) (sound : SoundRow row (length (run .lines)))
         (there : n ≤ length (run .lines)) where
-      abbrev once : Run
+      abbrev once : LinesAndStates
       once = acted (row .first) f run
 
-      abbrev below : Run
+      abbrev below : LinesAndStates
       below = acted (bandBelowLine n (row .first)) f run
 
-      abbrev in-parts-of-both : Run
+      abbrev in-parts-of-both : LinesAndStates
       in-parts-of-both = acted (bandFromLine n (row .second)) g (acted (bandFromLine n (row .first)) f (acted (bandBelowLine n (row .second)) g below))
 
       -- the line is at the second band or before it: below it only the first filter acts
       line-before-second : n ≤ row .second .start → in-parts-of-both ≡ acted (row .second) g once
       line-before-second h =
           let e = beyond (row .second) (sound .second-fits .order) h in
-          ap (λ (r : Run). acted (bandFromLine n (row .second)) g (acted (bandFromLine n (row .first)) f r)) (acted-none (bandBelowLine n (row .second)) (e .0) g below)
+          ap (λ (r : LinesAndStates). acted (bandFromLine n (row .second)) g (acted (bandFromLine n (row .first)) f r)) (acted-none (bandBelowLine n (row .second)) (e .0) g below)
           ∙ ap (acted (bandFromLine n (row .second)) g) (acted-in-two (row .first) f run (sound .first-fits) there)
           ∙ acted-same (bandFromLine n (row .second)) (row .second) (e .1) g once
 
@@ -176,7 +176,7 @@ module _ (lattice : Lattice) where
           let e = before (row .first) (sound .first-fits .order) h in
           let long = acted-length (row .first) f run (sound .first-fits) in
           ap (acted (bandFromLine n (row .second)) g) (acted-none (bandFromLine n (row .first)) (e .1) f _)
-          ∙ ap (λ (r : Run). acted (bandFromLine n (row .second)) g (acted (bandBelowLine n (row .second)) g r)) (acted-same (bandBelowLine n (row .first)) (row .first) (e .0) f run)
+          ∙ ap (λ (r : LinesAndStates). acted (bandFromLine n (row .second)) g (acted (bandBelowLine n (row .second)) g r)) (acted-same (bandBelowLine n (row .first)) (row .first) (e .0) f run)
           ∙ acted-in-two (row .second) g once
           (record { order = sound .second-fits .order; end = omega (arith, sound .second-fits .end, long) }) (omega (arith, long))
 
@@ -213,6 +213,6 @@ module _ (lattice : Lattice) where
       two-runs filters before ys after zs b c =
           let e = row-in-two filters in
           record {
-            states = rw (c .states, b .states, b .lines) (ap (λ (r : Run). r .states) e);
-            lines = rw (c .lines, b .states, b .lines) (ap (λ (r : Run). r .lines) e);
+            states = rw (c .states, b .states, b .lines) (ap (λ (r : LinesAndStates). r .states) e);
+            lines = rw (c .lines, b .states, b .lines) (ap (λ (r : LinesAndStates). r .lines) e);
           }

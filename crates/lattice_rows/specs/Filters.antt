@@ -18,12 +18,12 @@ abbrev pub filterWith : List Float → ℕ → Filter
 filterWith q order = record { coefficients = q; order = order }
 
 -- a spectrum on its way through the filters: its lines, and the states as they are
-pub record Run : Type 0 where
+pub record LinesAndStates : Type 0 where
   pub lines : List Float
   pub states : List Float
 
 -- A filter has one of the bands, and the next filter goes on from its lines and states. A filter that no band is left for has no line to act on.
-unfoldable pub bandsRun : Lattice → List Band → List Filter → List Float → List Float → Run
+unfoldable pub bandsRun : Lattice → List Band → List Filter → List Float → List Float → LinesAndStates
 bandsRun lattice [] filters states lines = record { lines = lines; states = states }
 bandsRun lattice (band ∷ bands) [] states lines = record { lines = lines; states = states }
 bandsRun lattice (band ∷ bands) (f ∷ filters) states lines =
@@ -32,7 +32,7 @@ bandsRun lattice (band ∷ bands) (f ∷ filters) states lines =
     (within band (linesBy lattice (f .coefficients) (f .order) states) lines)
 
 -- both bands of a row, from some states
-abbrev pub rowRun : Lattice → Row → List Filter → List Float → List Float → Run
+abbrev pub rowRun : Lattice → Row → List Filter → List Float → List Float → LinesAndStates
 rowRun lattice row filters states lines = bandsRun lattice (row .first ∷ row .second ∷ []) filters states lines
 
 -- the states start at 0

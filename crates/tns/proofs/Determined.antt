@@ -4,7 +4,7 @@ use mathlib.Core.List.{List}
 use Prim.Native.Nat.{ℕ}
 use lib.Ieee.{Float}
 use Rattle.law_results.proofs.Determined.{Determined, DeterminedWith, itself, of-parts}
-use Rattle.call_decode.specs.Restart.{Lent, lentAtLine}
+use Rattle.call_restart.specs.Restart.{Lent, lentAtLine}
 use Rattle.tns.proofs.tns_decode.Kinds as tns-decode-kinds
 use Rattle.tns.proofs.tns_decode.Reads as tns-decode-reads
 use Rattle.tns.proofs.tns_decode_save.Kinds as tns-decode-save-kinds

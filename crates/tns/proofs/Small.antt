@@ -17,7 +17,7 @@ use Rattle.cost_call.proofs.Costs.{cost-by, counted-at-most}
 use Rattle.row_durations.specs.Durations.{durationOf}
 use Rattle.row_bands.specs.Bands.{rowOf, lastStop}
 use Rattle.check_frame.proofs.Frames.{frames-by}
-use Rattle.check_line.specs.Calls.{lineChecks, lineCallChecks, lineSays}
+use Rattle.check_line.specs.LineChecks.{lineChecks, lineCallChecks, lineSays}
 use Rattle.check_line.specs.declared.LineRefusal.{LineRefusal}
 use Rattle.check_line.specs.declared.LineRefusal.the-variants.{Call, Line, OutputLength}
 use Rattle.call_decode.specs.Decoder.{decodeChecks}

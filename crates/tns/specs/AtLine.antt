@@ -5,7 +5,7 @@ use Prim.Native.Nat.{ℕ}
 use lib.Ieee.{Float}
 use lib.ListN.{take}
 use Rattle.check_verdicts.specs.Verdicts.{Verdict, unlessRefused, noBits}
-use Rattle.call_decode.specs.Restart.{Lent}
+use Rattle.call_restart.specs.Restart.{Lent}
 use Rattle.tns.specs.Answers.{answerFor}
 use Rattle.tns.specs.declared.Answer.{Answer}
 

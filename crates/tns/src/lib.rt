@@ -8,12 +8,12 @@ pub use blocks::BlockTold;
 pub use blocks::tns_block_read;
 pub use blocks::tns_block_write;
 use call_decode::DecodeAnswer;
-use call_decode::LineAnswer;
 use call_decode::decode;
-use call_decode::restart;
-use call_decode::save;
 use call_encode::EncodeAnswer;
 use call_encode::encode;
+use call_restart::LineAnswer;
+use call_restart::restart;
+use call_restart::save;
 use check_line::LineRefusal;
 use check_refusals::Refusal;
 use cost_call::CostAnswer;
@@ -28,9 +28,10 @@ ghost use lib.ListN.{length};
 ghost use Rattle.check_verdicts.specs.Verdicts.{placed, accepted, refused, placeOf, ofFault, noBits, itsBits};
 ghost use Rattle.check_refusals.specs.Refusals.{says};
 ghost use Rattle.cost_call.specs.Cost.{costOf};
-ghost use Rattle.check_line.specs.Calls.{lineCallChecks, lineSays};
+ghost use Rattle.check_line.specs.LineChecks.{lineCallChecks, lineSays};
 ghost use Rattle.call_decode.specs.Decoder.{decodeChecks, spectrumDecoded};
-ghost use Rattle.call_decode.specs.Restart.{statesBefore, linesFrom, lineAnswerSays, lentAtLine};
+ghost use Rattle.side_split.specs.SplitRun.{statesBefore, linesFrom};
+ghost use Rattle.call_restart.specs.Restart.{lineAnswerSays, lentAtLine};
 ghost use Rattle.row_durations.specs.Durations.{durationOf};
 ghost use Rattle.row_bands.specs.Bands.{rowOf};
 ghost use Rattle.call_encode.specs.Encoder.{encodeVerdict};
@@ -121,7 +122,7 @@ pub extern "C" fn tns_decode(
     }
 }
 
-// Decodes a spectrum into an output of the same length, as `call_decode::save`, and writes the eight
+// Decodes a spectrum into an output of the same length, as `call_restart::save`, and writes the eight
 // states as they are before line n. A refused call writes neither.
 #[no_mangle]
 pub extern "C" fn tns_decode_save(
@@ -151,7 +152,7 @@ pub extern "C" fn tns_decode_save(
     told_at_line(answer)
 }
 
-// Writes the output of a spectrum from line n on, as `call_decode::restart`, going on from any eight
+// Writes the output of a spectrum from line n on, as `call_restart::restart`, going on from any eight
 // states. Nothing is written below n, and nothing by a refused call.
 #[no_mangle]
 pub extern "C" fn tns_decode_restart(

@@ -1,6 +1,6 @@
 -- Filters of order 0 change nothing, and any others are left to `filters_decoded`.
 use borrow.Author.Needs.{needs}
-use Rattle.call_decode.proofs.CountedFilters.{one-idle, all-idle, row-is-decoded}
+use Rattle.side_decoded.proofs.CountedFilters.{one-idle, all-idle, row-is-decoded}
 use Rattle.call_decode.proofs.row_decoded.Statement.{statement}
 use Rattle.call_decode.proofs.row_decoded.Tie as tie
 

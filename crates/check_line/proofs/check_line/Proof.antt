@@ -7,7 +7,7 @@ use borrow.Author.Tests.{lt-ltb, le-ltb, eq-eqb, ne-eqb}
 use Rattle.check_verdicts.specs.Verdicts.{numbered, refused, noFault}
 use Rattle.row_bands.specs.Bands.{lastStop}
 use Rattle.row_bands.specs.declared.Row.{Row}
-use Rattle.check_line.specs.Calls.{lineChecks}
+use Rattle.check_line.specs.LineChecks.{lineChecks}
 use Rattle.check_line.proofs.check_line.Statement.{statement}
 use Rattle.check_line.proofs.check_line.Tie as tie
 

@@ -3,7 +3,7 @@ use mathlib.Core.Path.{sym, _∙_, ap, subst}
 use Prim.Native.Nat.{_≤_}
 use borrow.Author.Needs.{needs}
 use Rattle.check_verdicts.specs.Verdicts.{refused, placeOf, noBits}
-use Rattle.check_line.specs.Calls.{lineSays}
+use Rattle.check_line.specs.LineChecks.{lineSays}
 use Rattle.check_line.specs.declared.LineRefusal.{LineRefusal}
 use Rattle.tns.specs.Answers.{answerFor}
 use Rattle.tns.specs.declared.Answer.{Answer}

@@ -3,8 +3,8 @@ use mathlib.Core.Path.{sym, _∙_, ap, subst}
 use Prim.Native.Nat.{_≤_}
 use borrow.Author.Needs.{needs}
 use Rattle.check_verdicts.specs.Verdicts.{placeOf, ofFault, noBits}
-use Rattle.call_decode.specs.Restart.{lineAnswerSays}
-use Rattle.call_decode.specs.declared.at_line.LineAnswer.{LineAnswer}
+use Rattle.call_restart.specs.Restart.{lineAnswerSays}
+use Rattle.call_restart.specs.declared.LineAnswer.{LineAnswer}
 use Rattle.tns.specs.Answers.{answerFor}
 use Rattle.tns.specs.declared.Answer.{Answer}
 use Rattle.tns.proofs.told_at_line.Statement.{statement}

@@ -1,0 +1,4 @@
+-- The laws that belong to no one function.
+pub mod CountedFilters
+pub mod Once
+pub mod Determined

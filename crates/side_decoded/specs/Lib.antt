@@ -1,0 +1,2 @@
+-- What a reader has to believe of the decoder's filters in a row.
+pub mod DecoderFilters
