@@ -7,7 +7,7 @@ use lib.ListN.{length, getD}
 use Rattle.law_lists.specs.Places.{part}
 use Rattle.check_verdicts.specs.Verdicts.{Verdict, unlessRefused}
 use Rattle.check_side.specs.Sides.{codeChecks}
-use Rattle.cost_call.specs.Records.{Fields, costOfFields}
+use Rattle.cost_bytes.specs.SideBytes.{Fields, costOfFields}
 use Rattle.block_numbers.specs.Words.{wordAt}
 
 pub record Recorded : Type 0 where

@@ -15,8 +15,8 @@ use Rattle.check_frame.specs.Frames.{frameOf}
 use Rattle.check_frame.proofs.Frames.{refused-frame, passed-frame}
 use Rattle.side_data.specs.Side.{bitsOf, noSide}
 use Rattle.side_data.specs.declared.SideData.{SideData}
-use Rattle.lattice_exact.specs.SideFilters.{filteredBy}
-use Rattle.lattice_exact.specs.Exact.{NearExact}
+use Rattle.side_encoded.specs.SideFilters.{filteredBy}
+use Rattle.side_near.specs.NearExact.{NearExact}
 use Rattle.shape_frame.specs.FrameSide.{sideOf}
 use Rattle.call_encode.specs.Encoder.{weightingIn, encodeVerdict, encodeSays, Encodes}
 use Rattle.call_encode.specs.declared.Encoded.{Encoded}

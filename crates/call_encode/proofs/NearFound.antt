@@ -10,12 +10,12 @@ use Rattle.row_durations.specs.declared.Duration.{Duration}
 use Rattle.row_bands.specs.declared.Band.{Band}
 use Rattle.row_bands.specs.declared.Row.{Row}
 use Rattle.row_bands.proofs.Bands.{SoundRow}
-use Rattle.side_data.specs.Quantized.{absent}
-use Rattle.side_data.proofs.Limits.{absent-within}
-use Rattle.lattice_exact.specs.Exact.{NearExact}
-use Rattle.lattice_exact.proofs.NearFrames.{OfTable, quantized-of-table, absent-of-table, filters-near}
+use Rattle.side_quantized.specs.Quantized.{absent}
+use Rattle.side_quantized.proofs.Within.{absent-within}
+use Rattle.side_near.specs.NearExact.{NearExact}
+use Rattle.side_near.proofs.NearFrames.{OfTable, quantized-of-table, absent-of-table, filters-near}
 use Rattle.shape_frame.specs.FrameSide.{hasSecond, filterOf, secondOf, sideOf}
-use Rattle.lattice_exact.specs.SideFilters.{filteredBy}
+use Rattle.side_encoded.specs.SideFilters.{filteredBy}
 use Rattle.shape_frame.proofs.FrameLimits.{filter-within}
 
 pub filter-of-table : (b : Band) (lines : List Float) (flag : Bool) (weighting : ℕ) → OfTable (filterOf b lines flag weighting)

@@ -23,7 +23,7 @@ use Rattle.lattice_rows.proofs.OutsideBands as calls
 use Rattle.shape_lags.specs.Autocorrelation.{autocorrelation}
 use Rattle.shape_frame.specs.Analysis.{filterRecord, reflectionsOf}
 use Rattle.side_data.specs.declared.SideData.{SideData}
-use Rattle.lattice_exact.specs.SideFilters.{filtersIn, filteredBy}
+use Rattle.side_encoded.specs.SideFilters.{filtersIn, filteredBy}
 use Rattle.shape_frame.specs.FrameSide.{filterOf, secondOf, sideOf}
 use Rattle.call_encode.specs.Encoder.{weightingIn, encodeVerdict, spectrumEncoded}
 

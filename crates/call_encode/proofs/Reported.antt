@@ -20,7 +20,7 @@ use Rattle.row_durations.specs.Durations.{durationOf, weightingOf, numbersOf, D
 use Rattle.row_bands.specs.declared.Band.{Band}
 use Rattle.row_bands.specs.declared.Row.{Row}
 use Rattle.shape_frame.specs.Analysis.{reflectionsOf}
-use Rattle.side_data.specs.Quantized.{quantizedOf, absent}
+use Rattle.side_quantized.specs.Quantized.{quantizedOf, absent}
 use Rattle.shape_frame.specs.FrameSide.{hasSecond, filterOf, secondOf, sideOf}
 use Rattle.call_encode.specs.Encoder.{weightingIn}
 use Rattle.side_data.specs.Side.{ordersIn, indicesIn, bitsOf}

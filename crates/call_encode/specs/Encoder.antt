@@ -15,8 +15,8 @@ use Rattle.row_bands.specs.declared.Row.{Row}
 use Rattle.check_frame.specs.Frames.{frameChecks}
 use Rattle.side_data.specs.Side.{bitsOf, noSide}
 use Rattle.side_data.specs.declared.SideData.{SideData}
-use Rattle.lattice_exact.specs.SideFilters.{filteredBy}
-use Rattle.lattice_exact.specs.Exact.{NearExact}
+use Rattle.side_encoded.specs.SideFilters.{filteredBy}
+use Rattle.side_near.specs.NearExact.{NearExact}
 use Rattle.shape_frame.specs.FrameSide.{sideOf}
 use Rattle.call_encode.specs.declared.Encoded.{Encoded}
 use Rattle.call_encode.specs.declared.EncodeAnswer.{EncodeAnswer}

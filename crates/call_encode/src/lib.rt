@@ -1,28 +1,22 @@
-// The encode call. A frame goes through it in the order of this file: its checks and its weighting in
-// `encode`, its analysis in `row_encoded`, then both filters in the caller's own spectrum, each over
-// the lines of its band.
+// The encode call: its door. A frame goes through it in the order of this file: its checks and its
+// weighting in `encode`, and in `row_encoded` its analysis, and then the filters that this finds, in the
+// caller's own spectrum.
 use check_frame::FrameAnswer;
 use check_frame::check_frame;
 use check_refusals::Refusal;
-use lattice_encoder::band_encoded;
-use row_bands::Band;
 use row_bands::Row;
 use row_durations::duration_of;
 use row_durations::lpc_weighting;
 use shape_frame::analyse_frame;
-use side_data::Quantized;
 use side_data::SideData;
+use side_encoded::two_encoded;
+use side_quantized::Quantized;
 ghost use mathlib.Core.Path.{_≡_};
-ghost use Prim.Native.Nat.{_≤_};
 ghost use lib.ListN.{length};
 ghost use Rattle.row_durations.specs.Durations.{durationOf};
 ghost use Rattle.row_bands.specs.Bands.{rowOf};
-ghost use Rattle.row_bands.proofs.Bands.{Fits, SoundRow};
-ghost use Rattle.lattice_encoder.specs.EncoderLattice.{lineEncoded};
-ghost use Rattle.lattice_rows.specs.Filters.{filterWith, FilteredIn};
+ghost use Rattle.row_bands.proofs.Bands.{SoundRow};
 ghost use Rattle.side_data.specs.Side.{noFilter};
-ghost use Rattle.side_data.specs.Limits.{Reported};
-ghost use Rattle.lattice_exact.specs.SideFilters.{filteredBy};
 ghost use Rattle.shape_frame.specs.FrameSide.{sideOf};
 ghost use Rattle.call_encode.specs.Encoder.{encodeVerdict, Encodes, refusedWith, RowEncodes};
 
@@ -93,38 +87,4 @@ fn row_encoded(row: Row, flag: bool, weighting: u8, lines: &mut [f32]) -> Encode
         answer: EncodeAnswer::Bits(found.bits),
         side,
     }
-}
-
-// Both filters, each in its band, the states carried from the first to the second.
-fn two_encoded(row: Row, side: SideData, lines: &mut [f32])
-    requires { ⌜ SoundRow row (length (now lines)) ⌝ }
-    requires { ⌜ Reported side ⌝ }
-    ensures { λ _. ⌜ now (lines .exit) ≡ filteredBy side row (now (lines .entry)) ⌝ }
-{
-    let first = side.first;
-    let second = side.second;
-    let q = first.coefficients;
-    let states = filter_encoded(row.first, q, first.order, [0.0; 8], lines);
-    let p = second.coefficients;
-    filter_encoded(row.second, p, second.order, states, lines);
-}
-
-// One filter, in its band of the whole spectrum. It answers the states after it.
-fn filter_encoded(
-    band: Band,
-    q: [f32; 8],
-    order: u8,
-    states: [f32; 8],
-    lines: &mut [f32],
-) -> [f32; 8]
-    requires { ⌜ Fits band (length (now lines)) ⌝ }
-    requires { ⌜ order ≤ 8 ⌝ }
-    ensures { λ r. ⌜ FilteredIn lineEncoded band (filterWith q order) states (now (lines .entry)) r (now (lines .exit)) ⌝ }
-{
-    if order == 0 {
-        return states;
-    }
-    let start = band.start;
-    let stop = band.stop;
-    band_encoded(q, order, states, &mut lines[start..stop])
 }

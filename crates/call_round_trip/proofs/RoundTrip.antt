@@ -19,9 +19,9 @@ use Rattle.check_frame.proofs.Frames.{frames-settle}
 use Rattle.lattice_decoder.specs.DecoderLattice.{lineDecoded}
 use Rattle.lattice_rows.specs.Filters.{Filter, rowFiltered}
 use Rattle.side_data.specs.Side.{ordersIn, indicesIn, coefficientsIn}
-use Rattle.side_data.specs.declared.Quantized.{Quantized}
+use Rattle.side_quantized.specs.declared.Quantized.{Quantized}
 use Rattle.side_data.specs.declared.SideData.{SideData}
-use Rattle.lattice_exact.proofs.NearFrames.{OfTable}
+use Rattle.side_near.proofs.NearFrames.{OfTable}
 use Rattle.shape_frame.specs.FrameSide.{hasSecond, sideOf}
 use Rattle.side_decoded.specs.DecoderFilters.{decoderFilter, rowDecoded}
 use Rattle.call_decode.specs.Decoder.{decodeChecks, spectrumDecoded}

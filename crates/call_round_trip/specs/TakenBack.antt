@@ -13,7 +13,7 @@ use Rattle.lattice_decoder.specs.DecoderLattice.{lineDecoded}
 use Rattle.lattice_rows.specs.Filters.{Filter, rowFiltered}
 use Rattle.side_data.specs.Side.{ordersIn, indicesIn, coefficientsIn}
 use Rattle.side_data.specs.declared.SideData.{SideData}
-use Rattle.lattice_exact.specs.SideFilters.{filtersIn}
+use Rattle.side_encoded.specs.SideFilters.{filtersIn}
 use Rattle.side_decoded.specs.DecoderFilters.{decoderFilter}
 use Rattle.call_decode.specs.Decoder.{decodeChecks, spectrumDecoded}
 

@@ -1,11 +1,11 @@
--- Laws of the cost that callers use in place of its text: a filter within the limits costs at most 84 bits, two of them at most 168, and every
--- sum on the way is below 2 ^ 24. Each rests on a law of the tables.
+-- Laws of the cost that callers use in place of its text: two filters within the limits cost at most 168 bits, and what the cost call says is one
+-- of five refusals or the bits of sound side data. They rest on the laws of one filter.
 use mathlib.Core.Path.{_≡_}
 use mathlib.Core.List.{List}
-use Prim.Native.Nat.{ℕ, zero, suc, _+_, _*_, _^_, _≤_, _<_}
+use Prim.Native.Nat.{ℕ, zero, suc, _+_, _*_, _≤_, _<_}
 use lib.Dec.{ltb}
 use native.Mathlib.Omega.{arith}
-use lib.ListN.{getD, take, drop, length-take}
+use lib.ListN.{getD, take, drop}
 use lib.Seq.{getD-drop}
 use Rattle.law_lists.specs.Counted.{counted, total}
 use Rattle.law_lists.proofs.Counted.{none-of-them, one-of-them, two-of-them}
@@ -14,24 +14,9 @@ use Rattle.check_side.specs.Sides.{SoundSide}
 use Rattle.check_verdicts.proofs.Verdicts.{check-by}
 use Rattle.check_side.proofs.Checks.{sides-by}
 use Rattle.check_limits.proofs.Stands.{none-over}
-use Rattle.cost_tables.proofs.TableCosts.{order-cost-affordable, order-cost-at-most, index-costs-at-most}
-use Rattle.cost_call.specs.Cost.{orderCost, indexCosts, filterCost, filterBits, countedBits, costOf}
-
-pub filter-cost-at-most : (weighting order : ℕ) (indices : List ℕ) → order ≤ 8 → filterCost weighting order indices ≤ 83 * 2048
-unfolding filterCost orderCost indexCosts
-filter-cost-at-most weighting order indices h =
-    omega (arith, order-cost-at-most weighting order h, index-costs-at-most 0 (take order indices), length-take order indices)
-
--- whatever the order
-pub filter-cost-affordable : (weighting order : ℕ) (indices : List ℕ) → filterCost weighting order indices ≤ 20480 + 20480 * order
-unfolding filterCost orderCost indexCosts
-filter-cost-affordable weighting order indices =
-    omega (arith, order-cost-affordable weighting order, index-costs-at-most 0 (take order indices), length-take order indices)
-
--- at most 84 bits a filter
-pub filter-bits-at-most : (weighting order : ℕ) (indices : List ℕ) → order ≤ 8 → filterBits weighting order indices ≤ 84
-unfolding filterBits
-filter-bits-at-most weighting order indices h = omega (arith, filter-cost-at-most weighting order indices h)
+use Rattle.cost_filter.specs.FilterCost.{filterBits}
+use Rattle.cost_filter.proofs.FilterCosts.{filter-bits-at-most}
+use Rattle.cost_call.specs.Cost.{countedBits, costOf}
 
 -- at most 84 bits for each counted filter
 pub counted-bits-at-most : (weighting filters : ℕ) (orders indices : List ℕ) → ((i : ℕ) → getD orders i 0 ≤ 8) → countedBits weighting filters orders indices ≤ 84 * filters
@@ -72,26 +57,7 @@ cost-at-most weighting filters orders indices =
     (omega arith)
     (counted-at-most weighting filters orders indices)
 
--- ---- the sums that E works in f32
-
--- every sum on the way to a filter's bits is below 2 ^ 24: the order's cost with those of the first indices, and E's last sum, with the one bit
--- that it adds before it divides
-pub sums-below : (weighting order counted : ℕ) (indices : List ℕ) → order ≤ 8
-    → orderCost weighting order + indexCosts (take counted (take order indices)) < 2 ^ 24
-unfolding orderCost indexCosts
-sums-below weighting order counted indices h =
-    omega (
-      arith,
-      order-cost-at-most weighting order h,
-      index-costs-at-most 0 (take counted (take order indices)),
-      length-take counted (take order indices),
-      length-take order indices,
-    )
-
-pub last-sum-below : (weighting order : ℕ) (indices : List ℕ) → order ≤ 8 → 2048 + filterCost weighting order indices < 2 ^ 24
-last-sum-below weighting order indices h = omega (arith, filter-cost-at-most weighting order indices h)
-
--- the bits of no filter, of the first, and of the first two
+-- ---- the bits of no filter, of the first, and of the first two
 pub none-counted : (weighting : ℕ) (orders indices : List ℕ) → countedBits weighting 0 orders indices ≡ 0
 unfolding countedBits total
 none-counted weighting orders indices = rw (none-of-them (filterBits weighting) orders indices)

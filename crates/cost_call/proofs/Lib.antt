@@ -1,4 +1,3 @@
 -- The laws that belong to no one function.
 pub mod Costs
-pub mod Records
 pub mod Determined

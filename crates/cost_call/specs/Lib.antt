@@ -1,3 +1,2 @@
--- What a reader has to believe of the cost.
+-- What a reader has to believe of the cost call.
 pub mod Cost
-pub mod Records

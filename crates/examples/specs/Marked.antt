@@ -14,7 +14,8 @@ use Rattle.check_verdicts.specs.Verdicts.{unlessRefused}
 use Rattle.check_side.specs.Sides.{sideChecks}
 use Rattle.check_limits.specs.LowestOver.{lowestOver}
 use Rattle.law_lists.specs.Counted.{counted, total}
-use Rattle.cost_call.specs.Cost.{costOf, countedBits, filterBits, filterCost, orderCost, indexCosts}
+use Rattle.cost_call.specs.Cost.{costOf, countedBits}
+use Rattle.cost_filter.specs.FilterCost.{filterBits, filterCost, orderCost, indexCosts}
 use Rattle.row_durations.specs.Durations.{weightingOf, numbersOf}
 use Rattle.row_durations.specs.declared.Duration.{Duration}
 use Rattle.row_durations.specs.declared.Duration.the-variants.{Ten, SevenPointFive}

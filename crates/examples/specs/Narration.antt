@@ -13,7 +13,8 @@ use Rattle.check_verdicts.specs.Verdicts.{numbered, accepted, refused}
 use Rattle.check_limits.specs.LowestOver.{lowestOver}
 use Rattle.check_side.specs.Sides.{sideChecks}
 use Rattle.cost_tables.specs.Tables.{ofOrder, cellsFrom}
-use Rattle.cost_call.specs.Cost.{orderCost, indexCosts, filterCost, filterBits, countedBits, costOf}
+use Rattle.cost_filter.specs.FilterCost.{orderCost, indexCosts, filterCost, filterBits}
+use Rattle.cost_call.specs.Cost.{countedBits, costOf}
 use Rattle.block_numbers.specs.Sums.{weightedFrom, sumsOf}
 use Rattle.block_record.specs.RecordBytes.{soundRecord}
 use Rattle.block_check.specs.Blocks.{bodyBytes, blockBytes, sumsRight, headerRight, soundRecords, blockVerdict}

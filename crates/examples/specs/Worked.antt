@@ -19,17 +19,18 @@ use Rattle.row_durations.specs.declared.Duration.the-variants.{SevenPointFive}
 use Rattle.law_lists.specs.Places.{tab}
 use Rattle.shape_lags.specs.Autocorrelation.{products, lagSum, normalizedLag, autocorrelation}
 use Rattle.shape_recursion.specs.Recursion.{crossed, reflection, nextRow, stepped, unpredicted, predicted}
-use Rattle.shape_recursion.specs.Gain.{gainOf, isOn, dampingOf, gainRecord}
+use Rattle.shape_gain.specs.Gain.{gainOf, isOn, dampingOf, gainRecord}
 use Rattle.shape_reflections.specs.Reflections.{powerFrom, power, damped, rowBelow, rowAt, reflections}
 use Rattle.shape_frame.specs.Analysis.{filterRecord, reflectionsOf}
-use Rattle.side_data.specs.Quantized.{quantizedOf, absent}
+use Rattle.side_quantized.specs.Quantized.{quantizedOf, absent}
 use Rattle.lattice_lines.specs.Lattice.{linesBy, statesBy}
 use Rattle.lattice_encoder.specs.EncoderLattice.{stageUp, stagesTo, lineEncoded}
 use Rattle.lattice_rows.specs.Filters.{bandsRun, rowFiltered}
-use Rattle.lattice_exact.specs.SideFilters.{filteredBy}
+use Rattle.side_encoded.specs.SideFilters.{filteredBy}
 use Rattle.shape_frame.specs.FrameSide.{filterOf, secondOf, sideOf}
 use Rattle.call_encode.specs.Encoder.{encodeVerdict, spectrumEncoded, sideIn}
-use Rattle.lattice_exact.specs.Exact.{exactStage, exactStagesTo, lineExact, linesExact, statesExact, firstExact, exactCarried, secondExact}
+use Rattle.lattice_exact.specs.Exact.{exactStage, exactStagesTo, lineExact, linesExact, statesExact}
+use Rattle.side_near.specs.NearExact.{firstExact, exactCarried, secondExact}
 use Rattle.side_data.specs.Side.{ordersIn, coefficientsIn}
 use Rattle.side_data.specs.declared.SideData.{SideData}
 

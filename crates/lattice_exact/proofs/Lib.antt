@@ -1,3 +1,2 @@
 -- The laws that hold the encoder's lattice to the exact one.
 pub mod NearLattice
-pub mod NearFrames

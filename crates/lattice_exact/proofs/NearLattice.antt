@@ -8,11 +8,13 @@ use Prim.Native.Nat.{ℕ, zero, suc, _+_, _-_, _*_, _^_, _≤_, _<_}
 use native.Mathlib.Decide.{ℕ-discrete}
 use native.Mathlib.Nat.{le-of-suc-le-suc, not-suc-le-zero, mul-le-mul, mul-le-mul-right}
 use native.Mathlib.Omega.{arith}
-use lib.Dec.{T, lit<}
+use borrow.Author.Tests.{le-ltb, lt-ltb}
+use lib.Dec.{T, lit<, leb→le}
 use lib.Pow.{pow-add, pow-mono}
 use lib.ListN.{length, getD, set, length-set, getD-replicate, List·getD-map}
 use lib.Seq.{getD-set-same, getD-set-other}
-use lib.IntN.{ℤ, pos, _+ℤ_, _*ℤ_}
+use lib.IntN.{ℤ, pos, negsuc, negℤ, natAbs, _+ℤ_, _*ℤ_, +ℤ-assoc}
+use lib.Signed.{_≤ℤ_}
 use lib.Ieee.{Float, nan, binary32, add, mul, fits, ofBits}
 use Rattle.law_rounding.specs.Units.{inUnits, powerInUnits, AtMost, WithinOf}
 use Rattle.law_rounding.proofs.Steps.{Tracks, tracks-wider, grown, onto, plus}
@@ -22,7 +24,8 @@ use Rattle.law_rounding.specs.Floats.{f0}
 use Rattle.law_lists.specs.Lines.{linesThrough, stateThrough}
 use Rattle.lattice_encoder.specs.EncoderLattice.{stageUp, stagesTo, entering, lineEncoded}
 use Rattle.lattice_lines.specs.Lattice.{atRest, linesBy, statesBy}
-use Rattle.lattice_exact.specs.Exact.{finer, ExactPassing, ExactPassed, exactStage, exactStagesTo, exactEntering, lineExact, linesExact, statesExact, exactRest, nearness, EachNear}
+use Rattle.lattice_exact.specs.Exact.{finer, ExactPassing, ExactPassed, exactStage, exactStagesTo, exactEntering, lineExact, linesExact, statesExact, exactRest}
+use Rattle.lattice_exact.specs.Near.{nearness, EachNear, InRange}
 use Rattle.lattice_encoder.specs.declared.Passing.{Passing}
 use Rattle.lattice_lines.specs.declared.Passed.{Passed}
 
@@ -176,6 +179,41 @@ pub record Reading (m : ℤ) : Type 0 where
   pub small : h ≤ 245
   pub entering : powerInUnits 149 m ≡ 2 ^ (h + 23)
   pub leaving : powerInUnits 357 (nearness m) ≡ 2 ^ (h + 218)
+
+-- each m of the range has its h
+abbrev lowest : ℤ
+lowest = negℤ (pos 126)
+
+nearness-shifts : (x y : ℤ) → nearness (x +ℤ y) ≡ x +ℤ nearness y
+nearness-shifts x y = +ℤ-assoc x y _
+
+from-lowest : (m : ℤ) (h : ℕ) → m ≡ pos h +ℤ lowest → h ≤ 245 → Reading m
+from-lowest m h e small =
+    record {
+      h = h;
+      small = small;
+      entering = rw e (ap (λ (z : ℤ). 2 ^ natAbs z) (+ℤ-assoc (pos h) lowest (pos 149)));
+      leaving =
+          rw e
+          (ap (λ (z : ℤ). powerInUnits 357 z) (nearness-shifts (pos h) lowest) ∙ ap (λ (z : ℤ). 2 ^ natAbs z) (+ℤ-assoc (pos h) (nearness lowest) (pos 357)));
+    }
+
+not-above : (a b : ℕ) → pos a ≤ℤ pos b → a ≤ b
+not-above a b h = leb→le a b (h .le)
+
+not-below : (a b : ℕ) → negsuc a ≤ℤ negsuc b → b ≤ a
+not-below a b h = leb→le b a (h .le)
+
+pub reading : (m : ℤ) → InRange m → Reading m
+reading (pos a) range = from-lowest (pos a) (a + 126) (rw (le-ltb (a + 126) 126 (omega arith)) (ap pos (back a))) (omega (arith, not-above a _ (range .1)))
+  where
+    back : (a : ℕ) → a ≡ a + 126 - 126
+    back a = omega arith
+reading (negsuc a) range =
+    from-lowest (negsuc a) (125 - a) (rw (lt-ltb (125 - a) 126 (omega arith)) (ap negsuc (back a (omega (arith, not-below _ a (range .0)))))) (omega arith)
+  where
+    back : (a : ℕ) → a ≤ 125 → a ≡ 126 - suc (125 - a)
+    back a h = omega arith
 
 module _ (m : ℤ) (r : Reading m) where
   abbrev h : ℕ

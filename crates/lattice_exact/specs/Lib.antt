@@ -1,3 +1,3 @@
--- What a reader has to believe of the exact lattice and of demand 3, and of the filters that side data are.
-pub mod SideFilters
+-- What a reader has to believe of the exact lattice, and of how near a line is to it.
 pub mod Exact
+pub mod Near

@@ -1,2 +1,2 @@
-// No code: this crate holds the exact lattice, demand 3 over it, and the laws that hold the encoder's
-// lattice to it.
+// No code: this crate holds the exact lattice over whole numbers, and the laws that hold the encoder's
+// lattice near it, of any coefficients that are factors. It knows nothing of rows and side data.

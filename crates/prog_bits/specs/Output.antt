@@ -4,7 +4,7 @@ use mathlib.Core.List.{List, [], _++_}
 use Prim.Native.Nat.{ℕ, zero, suc, _+_, _*_, _/_, _%_}
 use lib.ListN.{take, drop}
 use Rattle.io.specs.Counts.{Counts}
-use Rattle.cost_call.specs.Records.{lineOf}
+use Rattle.cost_bytes.specs.SideBytes.{lineOf}
 use Rattle.text_answers.specs.Wording.{lineText}
 use Rattle.prog_bits.specs.declared.Standing.{Standing}
 

@@ -12,9 +12,10 @@ use Rattle.law_lists.proofs.Tab.{length-tab}
 use Rattle.row_bands.specs.declared.Band.{Band}
 use Rattle.row_bands.specs.declared.Row.{Row}
 use Rattle.shape_frame.specs.FrameSide.{filterOf, secondOf, hasSecond, sideOf}
-use Rattle.side_data.specs.Limits.{Within8, Reported}
-use Rattle.side_data.proofs.Limits.{quantized-within, absent-within}
-use Rattle.side_data.specs.declared.Quantized.{Quantized}
+use Rattle.side_quantized.specs.Within.{Within8}
+use Rattle.side_data.specs.Limits.{Reported}
+use Rattle.side_quantized.proofs.Within.{quantized-within, absent-within}
+use Rattle.side_quantized.specs.declared.Quantized.{Quantized}
 
 either-length : (on : Bool) (xs ys : List Float) (n : ℕ) → length xs ≡ n → length ys ≡ n → length (cond on xs ys) ≡ n
 either-length true xs ys n p q = p

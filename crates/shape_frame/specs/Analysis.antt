@@ -9,9 +9,9 @@ use Rattle.law_rounding.specs.Floats.{f0}
 use Rattle.law_lists.specs.Places.{at}
 use Rattle.shape_lags.specs.Autocorrelation.{autocorrelation}
 use Rattle.shape_recursion.specs.Recursion.{predicted}
-use Rattle.shape_recursion.specs.Gain.{gainRecord}
+use Rattle.shape_gain.specs.Gain.{gainRecord}
 use Rattle.shape_reflections.specs.Reflections.{damped, reflections}
-use Rattle.shape_recursion.specs.declared.gain.FilterGain.{FilterGain}
+use Rattle.shape_gain.specs.declared.FilterGain.{FilterGain}
 use Rattle.shape_frame.specs.declared.Analysed.{Analysed}
 
 -- the record of a filter on a band

@@ -6,9 +6,9 @@ use lib.Dec.{eqb}
 use lib.Ieee.{Float}
 use Rattle.row_bands.specs.declared.Band.{Band}
 use Rattle.row_bands.specs.declared.Row.{Row}
-use Rattle.side_data.specs.Quantized.{quantizedOf, absent}
+use Rattle.side_quantized.specs.Quantized.{quantizedOf, absent}
 use Rattle.side_data.specs.Side.{bitsOf}
-use Rattle.side_data.specs.declared.Quantized.{Quantized}
+use Rattle.side_quantized.specs.declared.Quantized.{Quantized}
 use Rattle.side_data.specs.declared.SideData.{SideData}
 use Rattle.shape_frame.specs.Analysis.{reflectionsOf}
 use Rattle.shape_frame.specs.declared.frame.Found.{Found}

@@ -1,13 +1,13 @@
 // The analysis of a frame: a filter for each band of its row, analysed and quantized, and what the side
 // data costs.
 use crate::analyse;
-use cost_call::filter_bits;
+use cost_filter::filter_bits;
 use row_bands::Band;
 use row_bands::Row;
-use side_data::Quantized;
 use side_data::SideData;
-use side_data::none;
-use side_data::quantize_all;
+use side_quantized::Quantized;
+use side_quantized::none;
+use side_quantized::quantize_all;
 ghost use mathlib.Core.Path.{_≡_};
 ghost use Rattle.side_data.specs.Side.{bitsOf};
 ghost use Rattle.side_data.specs.Limits.{Reported};

@@ -1,3 +1,2 @@
--- What a reader has to believe of the recursion and of the gain, in the order of document 01's words.
+-- What a reader has to believe of the recursion.
 pub mod Recursion
-pub mod Gain

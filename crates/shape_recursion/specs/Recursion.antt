@@ -6,7 +6,7 @@ use lib.Dec.{eqb, ltb}
 use lib.Ieee.{Float, ne}
 use Rattle.law_rounding.specs.Floats.{_⊕_, _⊖_, _⊗_, _⊘_, f0, f1}
 use Rattle.law_lists.specs.Places.{at, tab}
-use Rattle.shape_recursion.specs.declared.recursion.Predictor.{Predictor}
+use Rattle.shape_recursion.specs.declared.Predictor.{Predictor}
 
 -- 0 - a[0]·r[k] - a[1]·r[k-1] - .., the first n products
 unfoldable pub crossed : List Float → List Float → ℕ → ℕ → Float

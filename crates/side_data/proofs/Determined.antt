@@ -1,20 +1,10 @@
 -- Any two results that a contract allows for one input coincide: the law of `law_results`, cited for each public function of this crate.
 -- Only coefficients are floats here, and no coefficient that is quantized is a NaN.
 use Rattle.law_results.proofs.Determined.{Determined, itself}
-use Rattle.side_data.proofs.quantize_all.Kinds as quantize-all-kinds
-use Rattle.side_data.proofs.quantize_all.Reads as quantize-all-reads
-use Rattle.side_data.proofs.none.Kinds as none-kinds
-use Rattle.side_data.proofs.none.Reads as none-reads
 use Rattle.side_data.proofs.record_of.Kinds as record-of-kinds
 use Rattle.side_data.proofs.record_of.Reads as record-of-reads
 use Rattle.side_data.proofs.coefficients_of.Kinds as coefficients-of-kinds
 use Rattle.side_data.proofs.coefficients_of.Reads as coefficients-of-reads
-
-quantize-all : Determined 0 quantize-all-kinds.ps quantize-all-kinds.r quantize-all-reads.Post
-quantize-all κs a x y s t p q = itself p q
-
-none : Determined 0 none-kinds.ps none-kinds.r none-reads.Post
-none κs a x y s t p q = itself p q
 
 record-of : Determined 0 record-of-kinds.ps record-of-kinds.r record-of-reads.Post
 record-of κs a x y s t p q = itself p q

@@ -1,4 +1,3 @@
 -- What a reader has to believe of side data.
-pub mod Quantized
 pub mod Side
 pub mod Limits

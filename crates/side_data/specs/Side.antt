@@ -5,8 +5,8 @@ use lib.ListN.{replicate}
 use lib.Ieee.{Float}
 use Rattle.law_rounding.specs.Floats.{f0}
 use Rattle.cost_call.specs.Cost.{countedBits}
-use Rattle.cost_call.specs.Records.{Fields, bytesOf}
-use Rattle.side_data.specs.declared.Quantized.{Quantized}
+use Rattle.cost_bytes.specs.SideBytes.{Fields, bytesOf}
+use Rattle.side_quantized.specs.declared.Quantized.{Quantized}
 use Rattle.side_data.specs.declared.SideData.{SideData}
 
 -- two orders, sixteen indices and sixteen coefficients: the first filter's, then the second's

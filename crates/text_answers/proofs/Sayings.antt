@@ -10,7 +10,7 @@ use Rattle.check_refusals.specs.Refusals.{says}
 use Rattle.check_refusals.specs.declared.Refusal.{Refusal}
 use Rattle.check_refusals.proofs.Refusal.{the-type}
 use Rattle.check_refusals.proofs.Eight.{unplaced, of-eight}
-use Rattle.cost_call.specs.Records.{Line, short, costs}
+use Rattle.cost_bytes.specs.SideBytes.{Line, short, costs}
 use Rattle.io_streams.proofs.Decimals.{decimal-at-most}
 use Rattle.text_answers.specs.Wording.{answerText, sayingText, lineText}
 

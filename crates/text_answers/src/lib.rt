@@ -1,13 +1,13 @@
 // The text of a record's line, as the bits program writes it, and that of a refused block.
 use check_refusals::Refusal;
 use cost_call::CostAnswer;
-use cost_call::RecordAnswer;
+use cost_bytes::BytesAnswer;
 use io_streams::put;
 use io_streams::put_decimal;
 ghost use Rattle.check_verdicts.specs.Verdicts.{numbered, placed, refused};
 ghost use Rattle.check_refusals.specs.Refusals.{says};
 ghost use Rattle.cost_call.specs.Cost.{costSays};
-ghost use Rattle.cost_call.specs.Records.{lineOf};
+ghost use Rattle.cost_bytes.specs.SideBytes.{lineOf};
 ghost use Rattle.io_streams.specs.Text.{Puts};
 ghost use Rattle.text_answers.specs.Wording.{answerText, sayingText, lineText, blockRefusalText};
 
@@ -53,10 +53,10 @@ fn put_cost(answer: CostAnswer, out: &mut [u8], at: usize) -> usize
 fn put_saying(bytes: &[u8], out: &mut [u8], at: usize) -> usize
     ensures { λ r. ⌜ Puts (sayingText (lineOf (now (bytes .entry)))) (now (out .entry)) at r (now (out .exit)) ⌝ }
 {
-    let answer = cost_call::record_cost(bytes);
+    let answer = cost_bytes::bytes_cost(bytes);
     match answer {
-        RecordAnswer::Short => put(b"short", out, at),
-        RecordAnswer::Whole(cost) => put_cost(cost, out, at),
+        BytesAnswer::Short => put(b"short", out, at),
+        BytesAnswer::Whole(cost) => put_cost(cost, out, at),
     }
 }
 

@@ -7,7 +7,7 @@ use Rattle.check_verdicts.specs.Verdicts.{Verdict, unlessRefused, IfAccepted, i
 use Rattle.row_bands.specs.declared.Row.{Row}
 use Rattle.side_data.specs.Side.{recordOf, coefficientsIn}
 use Rattle.side_data.specs.declared.SideData.{SideData}
-use Rattle.lattice_exact.specs.Exact.{NearExact}
+use Rattle.side_near.specs.NearExact.{NearExact}
 use Rattle.call_encode.specs.Encoder.{bitsVerdict, sideIn, linesAfter}
 use Rattle.tns.specs.Answers.{answerFor}
 use Rattle.tns.specs.declared.Answer.{Answer}

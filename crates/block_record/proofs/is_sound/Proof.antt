@@ -12,7 +12,7 @@ use Rattle.check_side.specs.Sides.{codeChecks, sideSays}
 use Rattle.check_verdicts.proofs.Verdicts.{settle}
 use Rattle.check_side.proofs.Sides.{codes-settle}
 use Rattle.cost_call.specs.Cost.{costSays}
-use Rattle.cost_call.specs.Records.{costOfFields}
+use Rattle.cost_bytes.specs.SideBytes.{costOfFields}
 use Rattle.block_record.specs.RecordBytes.{recordedOf, soundRecord}
 use Rattle.block_record.proofs.is_sound.Statement.{statement}
 use Rattle.block_record.proofs.is_sound.Tie as tie

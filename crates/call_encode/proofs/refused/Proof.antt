@@ -2,7 +2,7 @@
 use mathlib.Core.Path.{_≡_}
 use borrow.Author.Needs.{needs}
 use Rattle.check_refusals.specs.declared.Refusal.{Refusal}
-use Rattle.side_data.specs.declared.Quantized.{Quantized}
+use Rattle.side_quantized.specs.declared.Quantized.{Quantized}
 use Rattle.side_data.specs.Side.{noFilter}
 use Rattle.call_encode.specs.Encoder.{refusedWith}
 use Rattle.call_encode.specs.declared.Encoded.{Encoded}

@@ -3,7 +3,7 @@ use mathlib.Core.Path.{sym, _∙_, ap, subst}
 use borrow.Author.Needs.{needs}
 use Rattle.check_verdicts.specs.Verdicts.{accepted}
 use Rattle.side_data.specs.declared.SideData.{SideData}
-use Rattle.lattice_exact.specs.SideFilters.{filteredBy}
+use Rattle.side_encoded.specs.SideFilters.{filteredBy}
 use Rattle.shape_frame.specs.declared.frame.Found.{Found}
 use Rattle.side_data.specs.Limits.{Reported}
 use Rattle.shape_frame.proofs.FrameLimits.{side-reported}

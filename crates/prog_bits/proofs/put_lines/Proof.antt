@@ -5,7 +5,7 @@ use Prim.Native.Nat.{ℕ, _+_, _-_, _*_, _≤_}
 use native.Mathlib.Omega.{arith}
 use borrow.Author.Needs.{needs}
 use lib.ListN.{length}
-use Rattle.cost_call.specs.Records.{lineOf}
+use Rattle.cost_bytes.specs.SideBytes.{lineOf}
 use Rattle.io_streams.specs.Text.{Puts}
 use Rattle.io_streams.proofs.Texts.{puts-same, puts-on}
 use Rattle.text_answers.specs.Wording.{lineText}

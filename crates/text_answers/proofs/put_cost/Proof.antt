@@ -4,7 +4,7 @@ use native.Mathlib.Omega.{arith}
 use Rattle.io_streams.specs.Text.{ascii, decimal}
 use Rattle.io_streams.proofs.Texts.{puts-same, puts-on}
 use Rattle.cost_call.specs.Cost.{costSays}
-use Rattle.cost_call.specs.declared.budget.CostAnswer.{CostAnswer}
+use Rattle.cost_call.specs.declared.CostAnswer.{CostAnswer}
 use Rattle.text_answers.specs.Wording.{answerText}
 use borrow.Author.Needs.{needs}
 use Rattle.text_answers.proofs.put_cost.Statement.{statement}

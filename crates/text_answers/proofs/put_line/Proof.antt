@@ -3,7 +3,7 @@ use mathlib.Core.List.{_++_}
 use native.Mathlib.Omega.{arith}
 use Rattle.io_streams.specs.Text.{ascii, decimal}
 use Rattle.io_streams.proofs.Texts.{puts-on}
-use Rattle.cost_call.specs.Records.{lineOf}
+use Rattle.cost_bytes.specs.SideBytes.{lineOf}
 use Rattle.text_answers.specs.Wording.{sayingText}
 use borrow.Author.Needs.{needs}
 use Rattle.text_answers.proofs.put_line.Statement.{statement}

@@ -1,7 +1,7 @@
 -- That the bytes are too few, or what the cost call answers.
 use mathlib.Core.Path.{ap, sym, _∙_}
 use Rattle.io_streams.proofs.Texts.{puts-same}
-use Rattle.cost_call.specs.Records.{recordSays}
+use Rattle.cost_bytes.specs.SideBytes.{bytesSay}
 use Rattle.text_answers.specs.Wording.{sayingText}
 use borrow.Author.Needs.{needs}
 use Rattle.text_answers.proofs.put_saying.Statement.{statement}
@@ -12,7 +12,7 @@ returns c =
     let word = c .before .before in
     let matched = word .before .before .before in
     let called = matched .before .before in
-    puts-same (ap sayingText (sym (ap recordSays (matched .enum-told .given .1)) ∙ called .record-cost .ensures))
+    puts-same (ap sayingText (sym (ap bytesSay (matched .enum-told .given .1)) ∙ called .bytes-cost .ensures))
     (word .put .ensures)
 
 returns-2 : tie.Need-returns-2
@@ -20,7 +20,7 @@ returns-2 c =
     let put = c .before .before in
     let matched = put .before .before .before in
     let called = matched .before .before in
-    puts-same (ap sayingText (sym (ap recordSays (matched .answer .given .1)) ∙ called .record-cost .ensures))
+    puts-same (ap sayingText (sym (ap bytesSay (matched .answer .given .1)) ∙ called .bytes-cost .ensures))
     (put .put-cost .ensures)
 
 pub put-saying-spec : {M : Type 1} → statement M

@@ -10,9 +10,9 @@ use Rattle.row_bands.specs.declared.Band.{Band}
 use Rattle.law_rounding.specs.Floats.{f0}
 use Rattle.index_choice.specs.Quantizer.{indexOf, coefficientOf, orderOf, orderFrom, notAbove}
 use Rattle.shape_frame.specs.Analysis.{filterRecord, reflectionsOf}
-use Rattle.shape_recursion.specs.declared.gain.FilterGain.{FilterGain}
+use Rattle.shape_gain.specs.declared.FilterGain.{FilterGain}
 use Rattle.shape_frame.specs.declared.Analysed.{Analysed}
-use Rattle.side_data.specs.Quantized.{quantizedOf, absent}
+use Rattle.side_quantized.specs.Quantized.{quantizedOf, absent}
 use Rattle.shape_frame.specs.FrameSide.{filterOf}
 use Rattle.shape_frame.proofs.frame.filter_of.Statement.{statement}
 use Rattle.shape_frame.proofs.frame.filter_of.Tie as tie

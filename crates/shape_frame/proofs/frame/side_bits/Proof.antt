@@ -5,7 +5,7 @@ use native.Mathlib.Omega.{arith}
 use borrow.Author.Needs.{needs}
 use lib.ListN.{take}
 use lib.Seq.{take-at, drop-at, take-all}
-use Rattle.cost_call.specs.Cost.{filterBits}
+use Rattle.cost_filter.specs.FilterCost.{filterBits}
 use Rattle.cost_call.proofs.Costs.{one-counted, two-counted}
 use Rattle.side_data.specs.Side.{bitsOf}
 use Rattle.side_data.specs.declared.SideData.{SideData}

@@ -6,7 +6,7 @@ use Prim.Native.Nat.{ℕ}
 use borrow.Author.Needs.{needs}
 use lib.Ieee.{Float}
 use Rattle.row_bands.specs.declared.Row.{Row}
-use Rattle.side_data.specs.declared.Quantized.{Quantized}
+use Rattle.side_quantized.specs.declared.Quantized.{Quantized}
 use Rattle.side_data.specs.declared.SideData.{SideData}
 use Rattle.shape_frame.specs.FrameSide.{countOf, filterOf, secondOf, sideOf}
 use Rattle.shape_frame.proofs.frame.side_of.Statement.{statement}

@@ -1,0 +1,51 @@
+// What encoding does to the lines of a frame: both filters of its side data in the caller's own
+// spectrum, each over the lines of its band. Nothing is checked here: the encode call has done so.
+use lattice_encoder::band_encoded;
+use row_bands::Band;
+use row_bands::Row;
+use side_data::SideData;
+use side_quantized::Quantized;
+ghost use mathlib.Core.Path.{_≡_};
+ghost use Prim.Native.Nat.{_≤_};
+ghost use lib.ListN.{length};
+ghost use Rattle.row_bands.proofs.Bands.{Fits, SoundRow};
+ghost use Rattle.lattice_encoder.specs.EncoderLattice.{lineEncoded};
+ghost use Rattle.lattice_rows.specs.Filters.{filterWith, FilteredIn};
+ghost use Rattle.side_data.specs.Limits.{Reported};
+ghost use Rattle.side_encoded.specs.SideFilters.{filteredBy};
+
+// Both filters, each in its band, the states carried from the first to the second. The `requires` are
+// what the encode call has just checked of the frame, that the bands of the row lie in the lines, and
+// what its analysis promises of the side data that it finds.
+pub fn two_encoded(row: Row, side: SideData, lines: &mut [f32])
+    requires { ⌜ SoundRow row (length (now lines)) ⌝ }
+    requires { ⌜ Reported side ⌝ }
+    ensures { λ _. ⌜ now (lines .exit) ≡ filteredBy side row (now (lines .entry)) ⌝ }
+{
+    let first: Quantized = side.first;
+    let second: Quantized = side.second;
+    let q = first.coefficients;
+    let states = filter_encoded(row.first, q, first.order, [0.0; 8], lines);
+    let p = second.coefficients;
+    filter_encoded(row.second, p, second.order, states, lines);
+}
+
+// One filter, in its band of the whole spectrum. It answers the states after it.
+fn filter_encoded(
+    band: Band,
+    q: [f32; 8],
+    order: u8,
+    states: [f32; 8],
+    lines: &mut [f32],
+) -> [f32; 8]
+    requires { ⌜ Fits band (length (now lines)) ⌝ }
+    requires { ⌜ order ≤ 8 ⌝ }
+    ensures { λ r. ⌜ FilteredIn lineEncoded band (filterWith q order) states (now (lines .entry)) r (now (lines .exit)) ⌝ }
+{
+    if order == 0 {
+        return states;
+    }
+    let start = band.start;
+    let stop = band.stop;
+    band_encoded(q, order, states, &mut lines[start..stop])
+}

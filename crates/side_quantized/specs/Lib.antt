@@ -1,0 +1,3 @@
+-- What a reader has to believe of a quantized filter.
+pub mod Quantized
+pub mod Within
