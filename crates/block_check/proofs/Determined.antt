@@ -14,11 +14,6 @@ use Rattle.block_check.proofs.check.BlockRefusal.number.Kinds as number
 use Rattle.block_check.proofs.check.BlockRefusal.number.Reads as number-reads
 use Rattle.block_check.proofs.check.check_block.Kinds as check-block-kinds
 use Rattle.block_check.proofs.check.check_block.Reads as check-block-reads
-use Rattle.block_check.proofs.check.all_sound.Kinds as all-sound-kinds
-use Rattle.block_check.proofs.check.all_sound.Reads as all-sound-reads
-
-all-sound : Determined 1 all-sound-kinds.ps all-sound-kinds.r all-sound-reads.Post
-all-sound κs a x y s t p q = itself p q
 
 number : Determined 0 number-kinds.ps number-kinds.r number-reads.Post
 number κs a x y s t p q = itself p q

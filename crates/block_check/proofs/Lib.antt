@@ -1,5 +1,3 @@
 -- The laws that belong to no one function.
-pub mod Sound
-pub mod Laid
 pub mod Verdicts
 pub mod Determined

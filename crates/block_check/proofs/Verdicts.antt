@@ -6,17 +6,18 @@ use mathlib.Core.List.{List, [], _∷_}
 use Prim.Native.Nat.{ℕ, _+_, _*_, _≤_, _<_}
 use native.Mathlib.Decide.{decLt}
 use native.Mathlib.Omega.{arith}
-use borrow.Author.Tests.{lt-ltb, le-ltb, ltb-false, leb-true}
-use lib.Dec.{ltb, leb}
-use lib.ListN.{length, take, length-take, length-drop}
+use borrow.Author.Tests.{lt-ltb, le-ltb, ltb-false}
+use lib.Dec.{ltb}
+use lib.ListN.{length, take, length-take}
 use Rattle.law_lists.specs.Places.{part}
-use Rattle.law_lists.proofs.Every.{and-left, and-right}
 use Rattle.law_lists.proofs.Parts.{part-of-first}
 use Rattle.check_verdicts.specs.Verdicts.{Fault, Verdict, numbered, accepted, refused, check, onAccepted}
 use Rattle.check_verdicts.proofs.Verdicts.{check-by, not-accepted}
-use Rattle.block_check.specs.Blocks.{countOf, countIn, recordsIn, sumsRight, headerRight, numberRight, fillRight, soundRecords, blockBytes, blockVerdict, readVerdict, writeVerdict}
+use Rattle.block_parts.specs.Parts.{countOf, countIn, recordsIn, sumsRight, headerRight, numberRight, fillRight, soundRecords, blockBytes}
+use Rattle.block_check.specs.Blocks.{blockVerdict, readVerdict, writeVerdict}
 use Rattle.block_check.specs.Told.{countSaid}
-use Rattle.block_check.proofs.Laid.{block-count}
+use Rattle.block_parts.proofs.Laid.{block-count}
+use Rattle.block_parts.proofs.Counted.{few-records, some-records, its-count}
 
 module _ (number : ℕ) (block : List ℕ) where
   -- 12, where everything before it is right
@@ -57,22 +58,6 @@ no-bytes number [] h = refl
 no-bytes number (byte ∷ bytes) h = absurd (omega arith)
 
 -- ---- a block that is accepted
-
--- a right header counts 1 to 20 records
-pub few-records : (block : List ℕ) → headerRight block ≡ true → countIn block ≤ 20
-unfolding headerRight
-few-records block e = leb-true (countIn block) 20 (and-right (leb 1 (countIn block)) (leb (countIn block) 20) (and-left _ _ (and-left _ _ e)))
-
-pub some-records : (block : List ℕ) → headerRight block ≡ true → 1 ≤ countIn block
-unfolding headerRight
-some-records block e = leb-true 1 (countIn block) (and-left (leb 1 (countIn block)) (leb (countIn block) 20) (and-left _ _ (and-left _ _ e)))
-
--- the records are as many as it counts
-pub records-length : (block : List ℕ) → 512 ≤ length block → countIn block ≤ 20 → length (recordsIn block) ≡ 24 * countIn block
-records-length block long few = simp (length-take, length-drop) (omega arith)
-
-pub its-count : (block : List ℕ) → 512 ≤ length block → countIn block ≤ 20 → countIn block ≡ countOf (recordsIn block)
-its-count block long few = omega (arith, records-length block long few)
 
 pub record AcceptedBlock (number : ℕ) (block records : List ℕ) : Type 0 where
   pub long : 512 ≤ length block

@@ -1,3 +1,3 @@
--- What a reader has to believe of a block.
+-- What a reader has to believe of the checks of a block.
 pub mod Blocks
 pub mod Told

@@ -1,16 +1,16 @@
-// The checks of a block, in the order of refusals 9 to 12. Each part has a test of its own: its sums, its
-// header apart from its number, its number, its fill and its records.
-use law_numbers::least;
-use block_numbers::sums_of;
-use block_numbers::word_of;
-use block_record::is_sound;
-use check_limits::none_over;
+// The checks of a block, in the order of refusals 9 to 12.
+use block_parts::all_sound;
+use block_parts::are_sums_right;
+use block_parts::is_fill_right;
+use block_parts::is_header_right;
+use block_parts::is_number_right;
 ghost use mathlib.Core.Path.{_≡_};
 ghost use mathlib.Core.Bool.{not};
 ghost use Prim.Native.Nat.{_≤_};
 ghost use lib.ListN.{length};
 ghost use Rattle.check_verdicts.specs.Verdicts.{numberOf, accepted, onAccepted, check};
-ghost use Rattle.block_check.specs.Blocks.{countOf, countIn, recordsIn, sumsRight, headerRight, numberRight, fillRight, soundRecords, blockVerdict, readVerdict};
+ghost use Rattle.block_parts.specs.Parts.{countOf, countIn, recordsIn, soundRecords};
+ghost use Rattle.block_check.specs.Blocks.{blockVerdict, readVerdict};
 ghost use Rattle.block_check.specs.Told.{blockFault, blockSays};
 
 // Why a block is refused, in the order of request C-11's numbers 9 to 12: a short block, or one too many;
@@ -40,64 +40,6 @@ impl BlockRefusal {
 pub enum BlockAnswer {
     Records(usize),
     Refused(BlockRefusal),
-}
-
-// Whether some bytes are whole records, each of them sound.
-pub fn all_sound(bytes: &[u8]) -> bool
-    ensures { λ r. ⌜ r ≡ soundRecords (now (bytes .entry)) ⌝ }
-{
-    let mut from = 0usize;
-    while from < bytes.len() {
-        let end = least(from + 24, bytes.len());
-        if !is_sound(&bytes[from..end]) {
-            return false;
-        }
-        from = end;
-    }
-    true
-}
-
-fn are_sums_right(block: &[u8]) -> bool
-    requires { ⌜ length (now block) ≡ 512 ⌝ }
-    ensures { λ r. ⌜ r ≡ sumsRight (now (block .entry)) ⌝ }
-{
-    let sums = sums_of(block);
-    if word_of(block[508], block[509]) != sums.plain {
-        return false;
-    }
-    word_of(block[510], block[511]) == sums.weighted
-}
-
-// The header apart from the number.
-fn is_header_right(block: &[u8]) -> bool
-    requires { ⌜ length (now block) ≡ 512 ⌝ }
-    ensures { λ r. ⌜ r ≡ headerRight (now (block .entry)) ⌝ }
-{
-    if block[2] < 1 {
-        return false;
-    }
-    if block[2] > 20 {
-        return false;
-    }
-    if block[3] != 1 {
-        return false;
-    }
-    none_over(&block[4..8], 0)
-}
-
-fn is_number_right(number: u64, block: &[u8]) -> bool
-    requires { ⌜ length (now block) ≡ 512 ⌝ }
-    ensures { λ r. ⌜ r ≡ numberRight number (now (block .entry)) ⌝ }
-{
-    word_of(block[0], block[1]) as u64 == number
-}
-
-fn is_fill_right(block: &[u8]) -> bool
-    requires { ⌜ (length (now block) ≡ 512) × (countIn (now block) ≤ 20) ⌝ }
-    ensures { λ r. ⌜ r ≡ fillRight (now (block .entry)) ⌝ }
-{
-    let stop = 8 + 24 * (block[2] as usize);
-    none_over(&block[stop..508], 0)
 }
 
 // The records of a block whose header is right, or refusal 12.

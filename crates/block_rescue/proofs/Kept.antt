@@ -11,7 +11,8 @@ use lib.ListN.{length, take, drop, length-append, length-take, length-drop}
 use lib.Seq.{getD-take}
 use Rattle.check_verdicts.specs.Verdicts.{Fault, Verdict, numbered, accepted, refused, check}
 use Rattle.check_verdicts.proofs.Verdicts.{not-accepted}
-use Rattle.block_check.specs.Blocks.{numberIn, recordsIn, sumsRight, headerRight, fillRight, soundRecords, blockVerdict, readVerdict}
+use Rattle.block_parts.specs.Parts.{numberIn, recordsIn, sumsRight, headerRight, fillRight, soundRecords}
+use Rattle.block_check.specs.Blocks.{blockVerdict, readVerdict}
 use Rattle.block_check.proofs.Verdicts.{AcceptedBlock, accepted-block, some-bytes}
 use Rattle.block_rescue.specs.Rescue.{keptChecks, keptVerdict, renumbered, rescueVerdict}
 

@@ -8,7 +8,7 @@ use lib.ListN.{length}
 use Rattle.law_lists.specs.Places.{part}
 use Rattle.check_verdicts.specs.Verdicts.{Verdict, accepted, refused, check, unlessRefused, onAccepted}
 use Rattle.block_numbers.specs.Words.{wordBytes}
-use Rattle.block_check.specs.Blocks.{numberIn, recordsIn, sumBytes, sumsRight, headerRight, fillRight, soundRecords}
+use Rattle.block_parts.specs.Parts.{numberIn, recordsIn, sumBytes, sumsRight, headerRight, fillRight, soundRecords}
 use Rattle.block_check.specs.Told.{blockFault}
 use Rattle.block_rescue.specs.declared.RescueAnswer.{RescueAnswer}
 use Rattle.block_rescue.specs.declared.RescueAnswer.the-variants.{Kept, Refused}

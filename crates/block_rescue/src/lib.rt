@@ -10,7 +10,7 @@ ghost use mathlib.Core.List.{_++_};
 ghost use lib.ListN.{length, take, replicate};
 ghost use Rattle.check_verdicts.specs.Verdicts.{onAccepted};
 ghost use Rattle.block_numbers.specs.Words.{wordBytes};
-ghost use Rattle.block_check.specs.Blocks.{numberIn};
+ghost use Rattle.block_parts.specs.Parts.{numberIn};
 ghost use Rattle.block_rescue.specs.Rescue.{keptVerdict, rescueSays, RescueDone};
 
 // The answer of a call that rescues a block: the number that stands in a block that is kept, or why none

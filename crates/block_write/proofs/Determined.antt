@@ -5,15 +5,10 @@ use Prim.Native.Nat.{ℕ}
 use Rattle.law_results.proofs.Determined.{Determined, DeterminedWith, coincide, itself}
 use Rattle.block_check.specs.Told.{blockSays}
 use Rattle.block_check.proofs.Determined.{answerBack, answer-back}
-use Rattle.block_write.proofs.read.read_block.Kinds as read-block-kinds
-use Rattle.block_write.proofs.read.read_block.Reads as read-block-reads
-use Rattle.block_write.proofs.write.with_sums.Kinds as with-sums-kinds
-use Rattle.block_write.proofs.write.with_sums.Reads as with-sums-reads
-use Rattle.block_write.proofs.write.write_block.Kinds as write-block-kinds
-use Rattle.block_write.proofs.write.write_block.Reads as write-block-reads
-
-read-block : DeterminedWith 2 read-block-kinds.ps read-block-kinds.r read-block-reads.Post (List ℕ) (λ κs s. s .1 .1 .0 .now)
-read-block κs a x y s t p q = (coincide blockSays answerBack answer-back (p .answer) (q .answer), itself (p .bytes) (q .bytes))
+use Rattle.block_write.proofs.with_sums.Kinds as with-sums-kinds
+use Rattle.block_write.proofs.with_sums.Reads as with-sums-reads
+use Rattle.block_write.proofs.write_block.Kinds as write-block-kinds
+use Rattle.block_write.proofs.write_block.Reads as write-block-reads
 
 with-sums : Determined 0 with-sums-kinds.ps with-sums-kinds.r with-sums-reads.Post
 with-sums κs a x y s t p q = itself p q

@@ -12,7 +12,7 @@ use Rattle.check_verdicts.specs.Verdicts.{Verdict, accepted, check}
 use Rattle.check_side.specs.Sides.{sideChecks, SoundSide}
 use Rattle.check_limits.specs.LowestOver.{lowestOver}
 use Rattle.check_limits.specs.declared.Over.the-variants.{Nowhere}
-use Rattle.index_choice.specs.Quantizer.{indexOf}
+use Rattle.index_choice.specs.Indices.{indexOf}
 use Rattle.cost_call.specs.Cost.{costOf, countedBits}
 use Rattle.cost_call.proofs.Costs.{counted-at-most}
 use Rattle.index_choice.proofs.Indices.{index-at-most}

@@ -11,7 +11,7 @@ use Rattle.law_lists.specs.Lines.{linesThrough, stateThrough}
 use Rattle.law_rounding.specs.Floats.{f1}
 use Rattle.check_limits.specs.LowestOver.{lowestOver}
 use Rattle.check_side.specs.Sides.{sideChecks}
-use Rattle.index_choice.specs.Quantizer.{coefficientOf}
+use Rattle.index_coefficients.specs.Coefficients.{coefficientOf}
 use Rattle.row_bands.specs.Bands.{rowOf}
 use Rattle.check_frame.specs.Frames.{frameChecks}
 use Rattle.lattice_lines.specs.Lattice.{linesBy, statesBy}

@@ -9,7 +9,7 @@ use lib.Ieee.{Float, nan, neg, le, ofBits, binary32}
 use Rattle.law_lists.specs.Every.{every}
 use Rattle.cost_tables.specs.Tables.{ofOrder, cellsFrom}
 use Rattle.law_rounding.specs.Floats.{f1}
-use Rattle.index_choice.specs.Quantizer.{indexOf, notAbove}
+use Rattle.index_choice.specs.Indices.{indexOf, notAbove}
 use Rattle.check_verdicts.specs.Verdicts.{unlessRefused}
 use Rattle.check_side.specs.Sides.{sideChecks}
 use Rattle.check_limits.specs.LowestOver.{lowestOver}

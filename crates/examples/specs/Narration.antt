@@ -17,7 +17,8 @@ use Rattle.cost_filter.specs.FilterCost.{orderCost, indexCosts, filterCost, fil
 use Rattle.cost_call.specs.Cost.{countedBits, costOf}
 use Rattle.block_numbers.specs.Sums.{weightedFrom, sumsOf}
 use Rattle.block_record.specs.RecordBytes.{soundRecord}
-use Rattle.block_check.specs.Blocks.{bodyBytes, blockBytes, sumsRight, headerRight, soundRecords, blockVerdict}
+use Rattle.block_parts.specs.Parts.{bodyBytes, blockBytes, sumsRight, headerRight, soundRecords}
+use Rattle.block_check.specs.Blocks.{blockVerdict}
 
 -- one filter of this weighting, order and first index, with these bits
 abbrev oneFilter : ℕ → ℕ → ℕ → ℕ → List ℕ

@@ -9,7 +9,8 @@ use lib.ListN.{take, drop}
 use lib.IntN.{ℤ, pos, negsuc, natAbs, _-ℤ_}
 use lib.Ieee.{Float, binary32, ofBits, toBits, add, sub, mul, div, neg, eq, ne, lt, le}
 use Rattle.law_rounding.specs.Units.{inUnits}
-use Rattle.index_choice.specs.Quantizer.{notAbove, indexOf, coefficientOf, orderFrom, orderOf}
+use Rattle.index_choice.specs.Indices.{notAbove, indexOf, orderFrom, orderOf}
+use Rattle.index_coefficients.specs.Coefficients.{coefficientOf}
 use Rattle.row_durations.specs.Durations.{weightingOf}
 use Rattle.row_bands.specs.Bands.{rowOf, inside}
 use Rattle.check_frame.specs.Frames.{frameChecks}

@@ -15,9 +15,10 @@ use Rattle.check_limits.specs.LowestOver.{lowestOver, isNowhere}
 use Rattle.block_numbers.specs.Words.{wordAt}
 use Rattle.block_numbers.specs.Sums.{sumsOf}
 use Rattle.block_record.specs.RecordBytes.{soundRecord}
-use Rattle.block_check.specs.Blocks.{countOf, countIn, fillBytes, bodyBytes, sumBytes, blockBytes, recordsIn, fillIn, zeros, sumsRight, headerRight, numberRight, fillRight, soundRecords, blockVerdict}
-use Rattle.block_check.proofs.Sound.{sound-first}
-use Rattle.block_check.proofs.Laid.{body-length, block-length, block-count}
+use Rattle.block_parts.specs.Parts.{countOf, countIn, fillBytes, bodyBytes, sumBytes, blockBytes, recordsIn, fillIn, zeros, sumsRight, headerRight, numberRight, fillRight, soundRecords}
+use Rattle.block_check.specs.Blocks.{blockVerdict}
+use Rattle.block_parts.proofs.Sound.{sound-first}
+use Rattle.block_parts.proofs.Laid.{body-length, block-length, block-count}
 use Rattle.block_check.proofs.Verdicts.{all-right}
 
 -- ---- sound records are whole

@@ -17,7 +17,8 @@ use Rattle.law_lists.proofs.Portions.{portions-first}
 use Rattle.check_verdicts.specs.Verdicts.{numbered, Verdict, accepted, refused}
 use Rattle.block_numbers.specs.Words.{wordAt}
 use Rattle.block_numbers.specs.Sums.{sumsOf}
-use Rattle.block_check.specs.Blocks.{recordsIn, sumsRight, headerRight, numberRight, fillRight, blockVerdict, readVerdict}
+use Rattle.block_parts.specs.Parts.{recordsIn, sumsRight, headerRight, numberRight, fillRight}
+use Rattle.block_check.specs.Blocks.{blockVerdict, readVerdict}
 use Rattle.block_check.proofs.Verdicts.{AcceptedBlock, tested, some-bytes}
 use Rattle.file_narration.specs.Files.{whole, refusedAt, Outcome, stoppedAt, before, goOn, runFrom, reading}
 use Rattle.file_narration.proofs.Cuts.{joined}

@@ -21,8 +21,10 @@ use Rattle.check_limits.specs.declared.Over.the-variants.{Nowhere, At}
 use Rattle.check_limits.proofs.Stands.{none-over}
 use Rattle.block_numbers.specs.Words.{wordAt, wordBytes}
 use Rattle.block_numbers.specs.Sums.{sumsOf}
-use Rattle.block_check.specs.Blocks.{countOf, countIn, headerBytes, fillBytes, bodyBytes, sumBytes, blockBytes, recordsIn, fillIn, zeros, sumsRight, headerRight, blockVerdict, readVerdict}
-use Rattle.block_check.proofs.Verdicts.{AcceptedBlock, accepted-block, few-records, records-length, its-count, some-bytes}
+use Rattle.block_parts.specs.Parts.{countOf, countIn, headerBytes, fillBytes, bodyBytes, sumBytes, blockBytes, recordsIn, fillIn, zeros, sumsRight, headerRight}
+use Rattle.block_check.specs.Blocks.{blockVerdict, readVerdict}
+use Rattle.block_check.proofs.Verdicts.{AcceptedBlock, accepted-block, some-bytes}
+use Rattle.block_parts.proofs.Counted.{few-records, records-length, its-count}
 use Rattle.file_narration.specs.Files.{whole, Outcome, goOn, runFrom, reading, blocksFrom}
 use Rattle.file_narration.proofs.Cuts.{joined, no-members}
 

@@ -14,9 +14,10 @@ use Rattle.law_lists.proofs.Parts.{drop-take}
 use Rattle.law_lists.proofs.Portions.{portions-first, portions-after, portions-none}
 use Rattle.check_verdicts.specs.Verdicts.{Verdict, accepted, refused}
 use Rattle.block_record.specs.RecordBytes.{soundRecord}
-use Rattle.block_check.specs.Blocks.{countIn, blockBytes, soundRecords, blockVerdict, readVerdict, writeVerdict}
-use Rattle.block_check.proofs.Sound.{sound-none, sound-first}
-use Rattle.block_check.proofs.Laid.{block-length, block-count}
+use Rattle.block_parts.specs.Parts.{countIn, blockBytes, soundRecords}
+use Rattle.block_check.specs.Blocks.{blockVerdict, readVerdict, writeVerdict}
+use Rattle.block_parts.proofs.Sound.{sound-none, sound-first}
+use Rattle.block_parts.proofs.Laid.{block-length, block-count}
 use Rattle.block_check.proofs.Verdicts.{some-bytes, records-decide, written-block}
 use Rattle.file_narration.specs.Files.{whole, Outcome, nothing, before, goOn, runFrom, reading, writing, blocksFrom}
 use Rattle.file_narration.proofs.BlockBack.{block-back}

@@ -4,7 +4,8 @@ use mathlib.Core.List.{List, [], _∷_, _++_}
 use Prim.Native.Nat.{ℕ, suc}
 use Rattle.law_lists.specs.Portions.{portions}
 use Rattle.check_verdicts.specs.Verdicts.{Fault, Verdict, accepted, refused}
-use Rattle.block_check.specs.Blocks.{blockBytes, readVerdict, writeVerdict}
+use Rattle.block_parts.specs.Parts.{blockBytes}
+use Rattle.block_check.specs.Blocks.{readVerdict, writeVerdict}
 
 -- how it ends: nothing is refused, or a block is, by its number
 pub data End : Type 0 where

@@ -15,7 +15,7 @@ use Rattle.law_lists.specs.Places.{part}
 use Rattle.law_lists.specs.Portions.{portions}
 use Rattle.law_lists.proofs.Portions.{portions-first, portions-none}
 use Rattle.check_verdicts.specs.Verdicts.{Fault, Verdict, numbered, accepted, refused}
-use Rattle.block_check.specs.Blocks.{numberIn, recordsIn}
+use Rattle.block_parts.specs.Parts.{numberIn, recordsIn}
 use Rattle.file_narration.proofs.Cuts.{no-members}
 use Rattle.file_narration.proofs.InPieces.{portions-split}
 use Rattle.block_rescue.specs.Rescue.{keptVerdict}

@@ -8,8 +8,8 @@ use lib.ListN.{length, length-map}
 use Rattle.law_lists.specs.Portions.{portions}
 use Rattle.law_lists.proofs.Portions.{portions-after, portions-none}
 use Rattle.check_verdicts.specs.Verdicts.{accepted}
-use Rattle.block_check.specs.Blocks.{blockBytes}
-use Rattle.block_check.proofs.Laid.{block-length}
+use Rattle.block_parts.specs.Parts.{blockBytes}
+use Rattle.block_parts.proofs.Laid.{block-length}
 use Rattle.file_narration.specs.Files.{blocksFrom}
 use Rattle.file_narration.proofs.BlockBack.{block-back}
 use Rattle.file_narration.proofs.ReadBack.{Holdable}

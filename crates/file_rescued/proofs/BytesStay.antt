@@ -13,8 +13,8 @@ use Rattle.law_lists.proofs.Portions.{portions-after}
 use Rattle.check_verdicts.specs.Verdicts.{Verdict, accepted, refused}
 use Rattle.check_verdicts.proofs.Verdicts.{not-accepted}
 use Rattle.block_numbers.specs.Words.{wordBytes}
-use Rattle.block_check.specs.Blocks.{countIn, sumBytes}
-use Rattle.block_check.proofs.Verdicts.{few-records}
+use Rattle.block_parts.specs.Parts.{countIn, sumBytes}
+use Rattle.block_parts.proofs.Counted.{few-records}
 use Rattle.file_narration.proofs.OnlyBlock.{AreBytes}
 use Rattle.block_rescue.specs.Rescue.{keptVerdict, renumbered}
 use Rattle.block_rescue.proofs.Kept.{renumbered-length}

@@ -9,9 +9,10 @@ use lib.Seq.{take-at}
 use Rattle.law_lists.specs.Places.{part}
 use Rattle.check_verdicts.specs.Verdicts.{Fault, Verdict, accepted, refused, unlessRefused}
 use Rattle.block_numbers.specs.Words.{wordBytes}
-use Rattle.block_check.specs.Blocks.{countOf, countIn, numberIn, recordsIn, headerBytes, fillBytes, bodyBytes, sumBytes, blockBytes}
-use Rattle.block_check.proofs.Laid.{body-length}
-use Rattle.block_check.proofs.Verdicts.{AcceptedBlock, few-records, some-records, records-length}
+use Rattle.block_parts.specs.Parts.{countOf, countIn, numberIn, recordsIn, headerBytes, fillBytes, bodyBytes, sumBytes, blockBytes}
+use Rattle.block_parts.proofs.Laid.{body-length}
+use Rattle.block_check.proofs.Verdicts.{AcceptedBlock}
+use Rattle.block_parts.proofs.Counted.{few-records, some-records, records-length}
 use Rattle.file_narration.specs.Files.{blocksFrom}
 use Rattle.file_narration.proofs.OnlyBlock.{AreBytes, only-block}
 use Rattle.file_narration.proofs.ReadBack.{Holdable, AllHoldable}

@@ -11,7 +11,7 @@ use lib.ListN.{length, length-map}
 use Rattle.law_lists.specs.Portions.{portions}
 use Rattle.check_verdicts.specs.Verdicts.{Verdict, numbered, accepted, refused, check}
 use Rattle.check_verdicts.proofs.Verdicts.{not-accepted}
-use Rattle.block_check.specs.Blocks.{recordsIn}
+use Rattle.block_parts.specs.Parts.{recordsIn}
 use Rattle.file_narration.specs.Files.{whole, Outcome, reading}
 use Rattle.file_narration.proofs.Cuts.{joined}
 use Rattle.file_narration.proofs.OnlyBlock.{AreBytes}

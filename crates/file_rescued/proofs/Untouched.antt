@@ -15,7 +15,8 @@ use Rattle.law_lists.proofs.Portions.{portions-first, portions-none}
 use Rattle.check_verdicts.specs.Verdicts.{Verdict, accepted, refused, unlessRefused}
 use Rattle.block_numbers.specs.Words.{wordBytes}
 use Rattle.block_numbers.specs.Sums.{sumsOf}
-use Rattle.block_check.specs.Blocks.{numberIn, recordsIn, sumBytes, blockVerdict, readVerdict}
+use Rattle.block_parts.specs.Parts.{numberIn, recordsIn, sumBytes}
+use Rattle.block_check.specs.Blocks.{blockVerdict, readVerdict}
 use Rattle.block_check.proofs.Verdicts.{AcceptedBlock, all-right}
 use Rattle.file_narration.specs.Files.{whole, Outcome, runFrom, reading, blocksFrom}
 use Rattle.file_narration.proofs.Cuts.{no-members}

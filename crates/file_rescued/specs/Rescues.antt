@@ -7,7 +7,7 @@ use lib.Dec.{eqb, ltb}
 use lib.ListN.{length}
 use Rattle.law_lists.specs.Portions.{portions}
 use Rattle.check_verdicts.specs.Verdicts.{Fault, Verdict, accepted, refused, check, unlessRefused}
-use Rattle.block_check.specs.Blocks.{numberIn}
+use Rattle.block_parts.specs.Parts.{numberIn}
 use Rattle.block_rescue.specs.Rescue.{keptVerdict, renumbered, rescueVerdict}
 
 -- ---- the blocks

@@ -10,8 +10,9 @@ use lib.Ieee.{Float, le, neg}
 use borrow.Author.Tests.{eqb-true}
 use lib.ListN.{length, getD}
 use Rattle.law_rounding.specs.Floats.{f0, f1}
-use Rattle.index_choice.specs.Quantizer.{notAbove, indexOf, coefficientOf, coefficients, orderFrom, orderOf, thresholds}
-use Rattle.index_choice.specs.QuantizerRules.{countUp, indices-agree}
+use Rattle.index_choice.specs.Indices.{notAbove, indexOf, orderFrom, orderOf, thresholds}
+use Rattle.index_coefficients.specs.Coefficients.{coefficientOf, coefficients}
+use Rattle.index_choice.specs.IndexRules.{countUp, indices-agree}
 use Rattle.law_lists.proofs.Every.{and-left, and-right}
 
 pub at-most-all : (x : Float) (ts : List Float) → notAbove x ts ≤ length ts

@@ -1,5 +1,4 @@
--- What a reader has to believe of indices and coefficients.
-pub mod Quantizer
-pub mod QuantizerRules
-pub mod Sines
-pub mod Step
+-- What a reader has to believe of the choice of an index.
+pub mod Indices
+pub mod IndexRules
+pub mod ThresholdSines

@@ -7,11 +7,12 @@ use native.Mathlib.Omega.{arith}
 use lib.ListN.{length, take, length-take, drop-of-length-le}
 use Rattle.check_verdicts.specs.Verdicts.{accepted, unlessRefused, onAccepted}
 use Rattle.check_verdicts.proofs.Verdicts.{not-accepted}
-use Rattle.block_check.specs.Blocks.{countIn, writeVerdict}
-use Rattle.block_write.specs.BlockCalls.{laidOver}
-use Rattle.block_check.proofs.Laid.{block-length}
+use Rattle.block_parts.specs.Parts.{countIn}
+use Rattle.block_check.specs.Blocks.{writeVerdict}
+use Rattle.block_buffer.specs.Buffers.{laidOver}
+use Rattle.block_parts.proofs.Laid.{block-length}
 use Rattle.block_check.proofs.Verdicts.{accepted-block, some-bytes, accepted-too, block-past, written-block}
-use Rattle.block_write.proofs.Buffers.{as-told}
+use Rattle.block_buffer.proofs.Buffers.{as-told}
 use Rattle.io_blocks.specs.Runs.{verdictOf}
 use Rattle.io_blocks.specs.declared.Way.{Way}
 use Rattle.io_blocks.specs.declared.Way.the-variants.{ToRecords, ToBlocks}

@@ -6,7 +6,7 @@ use native.Mathlib.Omega.{arith}
 use lib.ListN.{length, take}
 use lib.Seq.{take-all}
 use Rattle.check_verdicts.specs.Verdicts.{Verdict, accepted, refused, unlessRefused}
-use Rattle.block_check.specs.Blocks.{numberIn}
+use Rattle.block_parts.specs.Parts.{numberIn}
 use Rattle.block_check.specs.Told.{blockFault}
 use Rattle.block_check.specs.declared.check.BlockRefusal.{BlockRefusal}
 use Rattle.block_check.proofs.Verdicts.{refused-too, accepted-too}

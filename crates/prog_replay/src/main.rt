@@ -7,11 +7,11 @@
 // Of each list it writes a line for each record that differs, with the first number that does, and
 // last how many records there are and how many differ. A list that ends inside a record differs
 // there: a word that is not there is expected as 2^64 - 1, which nothing answers.
-use index_choice::coefficient_of;
+use answer_call::Answer;
 use index_choice::index_of;
+use index_coefficients::coefficient_of;
 use law_numbers::least;
 use libc::STDOUT_FILENO;
-use tns::Answer;
 use tns::tns_cost;
 use tns::tns_decode;
 use tns::tns_decode_restart;

@@ -3,7 +3,7 @@ use mathlib.Core.List.{List, map}
 use Prim.Native.Nat.{ℕ}
 use lib.Ieee.{Float}
 use Rattle.law_lists.specs.Counted.{counted}
-use Rattle.index_choice.specs.Quantizer.{coefficientOf}
+use Rattle.index_coefficients.specs.Coefficients.{coefficientOf}
 use Rattle.row_bands.specs.declared.Row.{Row}
 use Rattle.lattice_decoder.specs.DecoderLattice.{lineDecoded}
 use Rattle.lattice_rows.specs.Filters.{Filter, filterWith, rowFiltered}

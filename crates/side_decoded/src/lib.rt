@@ -1,7 +1,7 @@
 // The decoder's filters that orders and indices stand for, over the bands of a row of the caller's own
 // spectrum: each over the lines of its band, with coefficients by its indices. This undoes the encoder's
 // filter. It stands below the doors, which check the frame and the side data first.
-use index_choice::eight_coefficients;
+use index_coefficients::eight_coefficients;
 use lattice_decoder::band_decoded;
 use row_bands::Band;
 use row_bands::Row;

@@ -10,8 +10,8 @@ use lib.Ieee.{Float, nan, binary32, fits}
 use Rattle.law_lists.proofs.Every.{any-default}
 use Rattle.law_rounding.specs.Units.{AtMost}
 use Rattle.law_rounding.proofs.Factors.{Factor}
-use Rattle.index_choice.specs.Quantizer.{coefficientOf}
-use Rattle.index_choice.proofs.CoefficientFactors.{coefficient-factor}
+use Rattle.index_coefficients.specs.Coefficients.{coefficientOf}
+use Rattle.index_coefficients.proofs.CoefficientFactors.{coefficient-factor}
 use Rattle.row_bands.specs.Bands.{rowOf, bandOf, inside}
 use Rattle.row_durations.specs.declared.Duration.{Duration}
 use Rattle.row_bands.specs.declared.Row.{Row}

@@ -4,7 +4,8 @@ use mathlib.Core.List.{List, map}
 use native.Mathlib.Omega.{arith}
 use lib.Ieee.{Float}
 use lib.ListN.{length, length-map}
-use Rattle.index_choice.specs.Quantizer.{indexOf, coefficientOf}
+use Rattle.index_choice.specs.Indices.{indexOf}
+use Rattle.index_coefficients.specs.Coefficients.{coefficientOf}
 use Rattle.index_choice.proofs.Indices.{order-at-most}
 use Rattle.side_quantized.specs.Quantized.{quantizedOf, absent}
 use Rattle.side_quantized.specs.Within.{Within8}

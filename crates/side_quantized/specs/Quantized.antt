@@ -3,7 +3,8 @@ use mathlib.Core.List.{List, map}
 use lib.ListN.{replicate}
 use lib.Ieee.{Float}
 use Rattle.law_rounding.specs.Floats.{f0}
-use Rattle.index_choice.specs.Quantizer.{indexOf, coefficientOf, orderOf}
+use Rattle.index_choice.specs.Indices.{indexOf, orderOf}
+use Rattle.index_coefficients.specs.Coefficients.{coefficientOf}
 use Rattle.side_quantized.specs.declared.Quantized.{Quantized}
 
 -- their indices, the coefficients that these stand for, and the order

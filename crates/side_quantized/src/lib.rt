@@ -1,11 +1,12 @@
 // What becomes of a filter's reflection coefficients: E's `apply_quantization`, by the index rule and
 // its table. Any eight numbers may be given.
-use index_choice::coefficient_of;
+use index_coefficients::coefficient_of;
 use index_choice::index_of;
 use index_choice::order_of;
 ghost use mathlib.Core.Path.{_≡_};
 ghost use mathlib.Core.List.{map};
-ghost use Rattle.index_choice.specs.Quantizer.{indexOf, coefficientOf};
+ghost use Rattle.index_choice.specs.Indices.{indexOf};
+ghost use Rattle.index_coefficients.specs.Coefficients.{coefficientOf};
 ghost use Rattle.side_quantized.specs.Quantized.{quantizedOf, absent};
 
 // A filter's order, eight indices, and the coefficients that they stand for.

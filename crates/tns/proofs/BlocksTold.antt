@@ -5,9 +5,10 @@ use Prim.Native.Nat.{ℕ, _≤_}
 use Rattle.check_verdicts.specs.Verdicts.{Verdict, onAccepted}
 use Rattle.block_check.specs.Told.{blockSays, countSaid}
 use Rattle.block_check.specs.declared.check.BlockAnswer.{BlockAnswer}
-use Rattle.block_write.specs.BlockCalls.{BlockDone}
-use Rattle.tns.specs.Blocks.{blockFor, TnsBlock}
-use Rattle.tns.specs.declared.blocks.BlockTold.{BlockTold}
+use Rattle.block_buffer.specs.Buffers.{BlockDone}
+use Rattle.answer_block.specs.BlockAnswers.{blockFor}
+use Rattle.tns.specs.Blocks.{TnsBlock}
+use Rattle.answer_block.specs.declared.BlockTold.{BlockTold}
 
 module _ {verdict : Verdict (List ℕ)} {count : List ℕ → ℕ} {found left : List ℕ} {answer : BlockAnswer} where
   pub few-said : BlockDone verdict count found left answer → countSaid (onAccepted count verdict) ≤ 20 → countSaid (blockSays answer) ≤ 20

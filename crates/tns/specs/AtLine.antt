@@ -6,8 +6,8 @@ use lib.Ieee.{Float}
 use lib.ListN.{take}
 use Rattle.check_verdicts.specs.Verdicts.{Verdict, unlessRefused, noBits}
 use Rattle.call_restart.specs.Restart.{Lent}
-use Rattle.tns.specs.Answers.{answerFor}
-use Rattle.tns.specs.declared.Answer.{Answer}
+use Rattle.answer_call.specs.Answers.{answerFor}
+use Rattle.answer_call.specs.declared.Answer.{Answer}
 
 -- By the verdict on the call: the answer, and what the output and the states hold. An accepted call writes the decoded lines and the states before
 -- the line, and a refused one leaves both as it found them.

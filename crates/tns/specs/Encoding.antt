@@ -9,8 +9,8 @@ use Rattle.side_data.specs.Side.{recordOf, coefficientsIn}
 use Rattle.side_data.specs.declared.SideData.{SideData}
 use Rattle.side_near.specs.NearExact.{NearExact}
 use Rattle.call_encode.specs.Encoder.{bitsVerdict, sideIn, linesAfter}
-use Rattle.tns.specs.Answers.{answerFor}
-use Rattle.tns.specs.declared.Answer.{Answer}
+use Rattle.answer_call.specs.Answers.{answerFor}
+use Rattle.answer_call.specs.declared.Answer.{Answer}
 
 -- a caller's three lists, as a call finds them or leaves them: the spectrum, the 20 bytes of the record, the coefficients
 pub record Lent : Type 0 where

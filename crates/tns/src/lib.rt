@@ -1,106 +1,41 @@
 // The one crate whose functions C and Rust call. A slice passes as its pointer and length, and an
 // answer by value. Each function takes any numbers and lists and is its inner door: the answer's
-// numbers are those of the door's definition.
+// numbers are those of the door's definition, as `answer_call` and `answer_block` tell them.
 mod blocks;
 mod rescue;
 
-pub use blocks::BlockTold;
+use answer_call::Answer;
+use answer_call::accepted;
+use answer_call::refused;
+use answer_call::told_at_line;
 pub use blocks::tns_block_read;
 pub use blocks::tns_block_write;
 use call_decode::DecodeAnswer;
 use call_decode::decode;
 use call_encode::EncodeAnswer;
 use call_encode::encode;
-use call_restart::LineAnswer;
 use call_restart::restart;
 use call_restart::save;
-use check_line::LineRefusal;
-use check_refusals::Refusal;
 use cost_call::CostAnswer;
 use cost_call::cost;
-pub use rescue::RescueTold;
 pub use rescue::tns_block_rescue;
 use side_data::coefficients_of;
 use side_data::record_of;
 ghost use mathlib.Core.Path.{_≡_};
 ghost use Prim.Native.Nat.{_≤_};
 ghost use lib.ListN.{length};
-ghost use Rattle.check_verdicts.specs.Verdicts.{placed, accepted, refused, placeOf, ofFault, noBits, itsBits};
-ghost use Rattle.check_refusals.specs.Refusals.{says};
+ghost use Rattle.check_verdicts.specs.Verdicts.{noBits, itsBits};
 ghost use Rattle.cost_call.specs.Cost.{costOf};
-ghost use Rattle.check_line.specs.LineChecks.{lineCallChecks, lineSays};
+ghost use Rattle.check_line.specs.LineChecks.{lineCallChecks};
 ghost use Rattle.call_decode.specs.Decoder.{decodeChecks, spectrumDecoded};
 ghost use Rattle.side_split.specs.SplitRun.{statesBefore, linesFrom};
-ghost use Rattle.call_restart.specs.Restart.{lineAnswerSays, lentAtLine};
+ghost use Rattle.call_restart.specs.Restart.{lentAtLine};
 ghost use Rattle.row_durations.specs.Durations.{durationOf};
 ghost use Rattle.row_bands.specs.Bands.{rowOf};
 ghost use Rattle.call_encode.specs.Encoder.{encodeVerdict};
-ghost use Rattle.tns.specs.Answers.{answerFor};
+ghost use Rattle.answer_call.specs.Answers.{answerFor};
 ghost use Rattle.tns.specs.Encoding.{lent, TnsEncodes};
 ghost use Rattle.tns.specs.AtLine.{TnsSaves, TnsRestarts};
-
-// What a call answers. Refusal 0 says that it is accepted, and any other is the documents' number.
-// Place and found are those of refusals 6 and 7, and 0 else. Bits are those of an accepted cost, and
-// 0 else.
-#[repr(C)]
-pub struct Answer {
-    pub refusal: u16,
-    pub place: u16,
-    pub found: u16,
-    pub bits: u16,
-}
-
-fn accepted(bits: u16) -> Answer
-    ensures { λ r. ⌜ r ≡ answerFor itsBits (accepted bits) ⌝ }
-{
-    Answer {
-        refusal: 0,
-        place: 0,
-        found: 0,
-        bits,
-    }
-}
-
-// A refused call, by its numbers. It has no bits.
-fn told(refusal: u16, place: u16, found: u16) -> Answer
-    ensures { λ r. ⌜ r ≡ answerFor noBits (refused (placed refusal place found)) ⌝ }
-{
-    Answer {
-        refusal,
-        place,
-        found,
-        bits: 0,
-    }
-}
-
-fn refused(why: Refusal) -> Answer
-    requires { ⌜ placeOf (says why) ≤ 15 ⌝ }
-    ensures { λ r. ⌜ r ≡ answerFor noBits (refused (says why)) ⌝ }
-{
-    told(why.number() as u16, why.place() as u16, why.found() as u16)
-}
-
-fn refused_at_line(why: LineRefusal) -> Answer
-    requires { ⌜ placeOf (lineSays why) ≤ 15 ⌝ }
-    ensures { λ r. ⌜ r ≡ answerFor noBits (refused (lineSays why)) ⌝ }
-{
-    match why {
-        LineRefusal::Call(why) => refused(why),
-        LineRefusal::Line => told(16, 0, 0),
-        LineRefusal::OutputLength => told(17, 0, 0),
-    }
-}
-
-// What `save` and `restart` answer.
-fn told_at_line(answer: LineAnswer) -> Answer
-    requires { ⌜ ofFault placeOf (lineAnswerSays answer) ≤ 15 ⌝ }
-    ensures { λ r. ⌜ r ≡ answerFor noBits (lineAnswerSays answer) ⌝ }
-{
-    match answer {
-        LineAnswer::Decoded => accepted(0),
-        LineAnswer::Refused(why) => refused_at_line(why),
-    }
-}
 
 // Decodes a spectrum in place, as `call_decode::decode`. A refused call leaves every line as it was.
 #[no_mangle]

@@ -6,7 +6,8 @@ use native.Mathlib.Omega.{arith}
 use borrow.Author.Needs.{needs}
 use lib.ListN.{take, length-take}
 use Rattle.check_verdicts.specs.Verdicts.{Verdict, accepted, onAccepted}
-use Rattle.block_check.specs.Blocks.{countOf, numberIn, recordsIn, readVerdict}
+use Rattle.block_parts.specs.Parts.{countOf, numberIn, recordsIn}
+use Rattle.block_check.specs.Blocks.{readVerdict}
 use Rattle.block_check.specs.Told.{blockSays}
 use Rattle.block_check.proofs.Verdicts.{refused-too, accepted-too}
 use Rattle.block_rescue.specs.Rescue.{keptVerdict}

@@ -10,7 +10,7 @@ use Rattle.law_lists.specs.Places.{part}
 use Rattle.law_lists.proofs.Parts.{part-of-first}
 use Rattle.check_verdicts.specs.Verdicts.{Verdict, accepted, refused, unlessRefused, onAccepted}
 use Rattle.block_numbers.specs.Words.{wordBytes}
-use Rattle.block_check.specs.Blocks.{numberIn, sumBytes}
+use Rattle.block_parts.specs.Parts.{numberIn, sumBytes}
 use Rattle.block_check.proofs.Verdicts.{MadeFrom, refused-too, accepted-too}
 use Rattle.block_rescue.specs.Rescue.{keptVerdict, renumbered, rescueVerdict, rescueSays, RescueDone}
 use Rattle.block_rescue.specs.declared.RescueAnswer.{RescueAnswer}

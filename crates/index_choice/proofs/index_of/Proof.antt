@@ -7,7 +7,7 @@ use native.Mathlib.Omega.{arith}
 use borrow.Author.Needs.{needs}
 use lib.Ieee.{Float, le, neg}
 use Rattle.law_rounding.specs.Floats.{f0, f1}
-use Rattle.index_choice.specs.Quantizer.{indexOf, notAbove, thresholds}
+use Rattle.index_choice.specs.Indices.{indexOf, notAbove, thresholds}
 use Rattle.index_choice.proofs.Indices.{at-most-all}
 use Rattle.index_choice.proofs.index_of.Statement.{statement}
 use Rattle.index_choice.proofs.index_of.Tie as tie

@@ -9,7 +9,7 @@ use native.Mathlib.Omega.{arith}
 use lib.Ieee.{Float, nan, le}
 use lib.ListN.{length, getD, drop, drop-of-length-le}
 use lib.Seq.{drop-cons}
-use Rattle.index_choice.specs.Quantizer.{notAbove, thresholds}
+use Rattle.index_choice.specs.Indices.{notAbove, thresholds}
 use Rattle.index_choice.proofs.not_above.Statement.{statement}
 use Rattle.index_choice.proofs.not_above.Tie as tie
 

@@ -11,7 +11,7 @@ use lib.ListN.{length, getD, drop, drop-of-length-le}
 use lib.Seq.{drop-cons}
 use borrow.Kind.Array.{good-length, eInt}
 use mir.Syntax.{w8}
-use Rattle.index_choice.specs.Quantizer.{orderOf, orderFrom}
+use Rattle.index_choice.specs.Indices.{orderOf, orderFrom}
 use Rattle.index_choice.proofs.order_of.Statement.{statement}
 use Rattle.index_choice.proofs.order_of.Tie as tie
 

@@ -7,7 +7,8 @@ use borrow.Author.Needs.{needs}
 use lib.ListN.{drop, length-take}
 use Rattle.law_lists.specs.Places.{part}
 use Rattle.check_verdicts.specs.Verdicts.{accepted, onAccepted}
-use Rattle.block_check.specs.Blocks.{countOf, readVerdict}
+use Rattle.block_parts.specs.Parts.{countOf}
+use Rattle.block_check.specs.Blocks.{readVerdict}
 use Rattle.block_check.specs.Told.{blockSays}
 use Rattle.block_check.proofs.Verdicts.{Given, given-some, given-none, refused-too}
 use Rattle.io_streams.proofs.Texts.{puts-none}

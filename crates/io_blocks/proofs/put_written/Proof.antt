@@ -3,7 +3,8 @@ use mathlib.Core.Path.{refl, sym, _∙_, ap}
 use native.Mathlib.Omega.{arith}
 use borrow.Author.Needs.{needs}
 use lib.ListN.{replicate}
-use Rattle.block_check.specs.Blocks.{countIn, writeVerdict}
+use Rattle.block_parts.specs.Parts.{countIn}
+use Rattle.block_check.specs.Blocks.{writeVerdict}
 use Rattle.block_check.specs.Told.{blockSays}
 use Rattle.block_check.proofs.Verdicts.{refused-too}
 use Rattle.io_blocks.proofs.Steps.{WrittenBlock, in-buffer}

@@ -9,7 +9,7 @@ use lib.Seq.{take-all}
 use Rattle.law_lists.specs.Portions.{portions}
 use Rattle.law_lists.proofs.Portions.{portions-at, portions-none}
 use Rattle.check_verdicts.specs.Verdicts.{Fault, accepted, refused, onAccepted}
-use Rattle.block_check.specs.Blocks.{numberIn}
+use Rattle.block_parts.specs.Parts.{numberIn}
 use Rattle.block_check.proofs.Verdicts.{refused-too, accepted-too}
 use Rattle.block_rescue.specs.Rescue.{keptVerdict, rescueSays}
 use Rattle.file_rescued.specs.Rescues.{keptOf}

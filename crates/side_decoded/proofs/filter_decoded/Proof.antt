@@ -2,7 +2,7 @@
 use mathlib.Core.Path.{_∙_, ap}
 use mathlib.Core.List.{map}
 use borrow.Author.Needs.{needs}
-use Rattle.index_choice.specs.Quantizer.{coefficientOf}
+use Rattle.index_coefficients.specs.Coefficients.{coefficientOf}
 use Rattle.lattice_decoder.specs.DecoderLattice.{lineDecoded}
 use Rattle.lattice_decoder.proofs.Idle.{decoder-idle}
 use Rattle.lattice_rows.proofs.Filters.{idle-filter, no-lines, lent-back}

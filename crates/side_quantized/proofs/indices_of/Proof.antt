@@ -7,7 +7,7 @@ use borrow.Author.Needs.{needs}
 use borrow.Kind.Array.{good-length, eFloat}
 use lib.Ieee.{nan, binary32}
 use lib.ListN.{length, take, length-set}
-use Rattle.index_choice.specs.Quantizer.{indexOf}
+use Rattle.index_choice.specs.Indices.{indexOf}
 use Rattle.law_lists.proofs.Filled.{mapped-more, mapped-all}
 use Rattle.side_quantized.proofs.indices_of.Statement.{statement}
 use Rattle.side_quantized.proofs.indices_of.Tie as tie

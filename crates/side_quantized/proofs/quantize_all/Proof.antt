@@ -4,7 +4,8 @@ use mathlib.Core.List.{List, map}
 use Prim.Native.Nat.{ℕ}
 use borrow.Author.Needs.{needs}
 use lib.Ieee.{Float}
-use Rattle.index_choice.specs.Quantizer.{indexOf, coefficientOf, orderOf}
+use Rattle.index_choice.specs.Indices.{indexOf, orderOf}
+use Rattle.index_coefficients.specs.Coefficients.{coefficientOf}
 use Rattle.side_quantized.specs.Quantized.{quantizedOf}
 use Rattle.side_quantized.specs.declared.Quantized.{Quantized}
 use Rattle.side_quantized.proofs.quantize_all.Statement.{statement}

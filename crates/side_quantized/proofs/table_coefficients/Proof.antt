@@ -7,7 +7,7 @@ use borrow.Author.Needs.{needs}
 use borrow.Kind.Array.{good-length, eInt}
 use mir.Syntax.{w8}
 use lib.ListN.{length, take, length-set}
-use Rattle.index_choice.specs.Quantizer.{coefficientOf}
+use Rattle.index_coefficients.specs.Coefficients.{coefficientOf}
 use Rattle.law_lists.proofs.Filled.{mapped-more, mapped-all}
 use Rattle.side_quantized.proofs.table_coefficients.Statement.{statement}
 use Rattle.side_quantized.proofs.table_coefficients.Tie as tie

@@ -7,9 +7,9 @@ use Rattle.check_verdicts.specs.Verdicts.{Verdict, accepted, refused, placeOf, 
 use Rattle.check_refusals.specs.Refusals.{says}
 use Rattle.cost_call.specs.Cost.{costOf, costSays}
 use Rattle.cost_call.proofs.Costs.{cost-at-most}
-use Rattle.tns.specs.Answers.{answerFor}
-use Rattle.tns.specs.declared.Answer.{Answer}
-use Rattle.tns.proofs.Small.{cost-place}
+use Rattle.answer_call.specs.Answers.{answerFor}
+use Rattle.answer_call.specs.declared.Answer.{Answer}
+use Rattle.answer_call.proofs.Small.{cost-place}
 use Rattle.tns.proofs.tns_cost.Statement.{statement}
 use Rattle.tns.proofs.tns_cost.Tie as tie
 

@@ -6,8 +6,8 @@ use lib.ListN.{length}
 use Rattle.check_verdicts.specs.Verdicts.{Verdict, refused, noFault, placeOf, ofFault, noBits}
 use Rattle.check_refusals.specs.Refusals.{says}
 use Rattle.call_decode.specs.Decoder.{decodeChecks, decodeSays}
-use Rattle.tns.specs.Answers.{answerFor}
-use Rattle.tns.proofs.Small.{decode-place}
+use Rattle.answer_call.specs.Answers.{answerFor}
+use Rattle.answer_call.proofs.Small.{decode-place}
 use Rattle.tns.proofs.tns_decode.Statement.{statement}
 use Rattle.tns.proofs.tns_decode.Tie as tie
 

@@ -4,8 +4,8 @@ use Prim.Native.Nat.{_≤_}
 use borrow.Author.Needs.{needs}
 use lib.ListN.{length}
 use Rattle.check_verdicts.specs.Verdicts.{Verdict, placeOf, ofFault, noBits}
-use Rattle.tns.specs.Answers.{answerFor}
-use Rattle.tns.proofs.Small.{line-place}
+use Rattle.answer_call.specs.Answers.{answerFor}
+use Rattle.answer_call.proofs.Small.{line-place}
 use Rattle.tns.proofs.tns_decode_restart.Statement.{statement}
 use Rattle.tns.proofs.tns_decode_restart.Tie as tie
 

@@ -5,9 +5,9 @@ use borrow.Author.Needs.{needs}
 use Rattle.check_verdicts.specs.Verdicts.{Verdict, accepted, refused, ofFault, placeOf, bitsIn, itsBits}
 use Rattle.check_refusals.specs.Refusals.{says}
 use Rattle.call_encode.specs.Encoder.{encodeVerdict, bitsVerdict, encodeSays}
-use Rattle.tns.specs.Answers.{answerFor}
-use Rattle.tns.specs.declared.Answer.{Answer}
-use Rattle.tns.proofs.Small.{encode-place}
+use Rattle.answer_call.specs.Answers.{answerFor}
+use Rattle.answer_call.specs.declared.Answer.{Answer}
+use Rattle.answer_call.proofs.Small.{encode-place}
 use Rattle.tns.proofs.Written.{refused-writes, accepted-writes}
 use Rattle.tns.proofs.tns_encode.Statement.{statement}
 use Rattle.tns.proofs.tns_encode.Tie as tie

@@ -6,7 +6,8 @@ use native.Mathlib.Omega.{arith}
 use borrow.Author.Needs.{needs}
 use lib.ListN.{length, take, length-take}
 use Rattle.check_verdicts.specs.Verdicts.{Verdict, onAccepted}
-use Rattle.block_check.specs.Blocks.{countOf, blockVerdict, readVerdict}
+use Rattle.block_parts.specs.Parts.{countOf}
+use Rattle.block_check.specs.Blocks.{blockVerdict, readVerdict}
 use Rattle.block_check.proofs.Verdicts.{too-short, too-many, some-bytes, no-bytes}
 use Rattle.block_check.proofs.check.check_block.Statement.{statement}
 use Rattle.block_check.proofs.check.check_block.Tie as tie

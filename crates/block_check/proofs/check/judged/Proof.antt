@@ -7,8 +7,10 @@ use borrow.Author.Needs.{needs}
 use borrow.Author.Tests.{not-true, not-false}
 use lib.ListN.{length}
 use Rattle.check_verdicts.specs.Verdicts.{Verdict, onAccepted}
-use Rattle.block_check.specs.Blocks.{countOf, sumsRight, headerRight, numberRight, fillRight, blockVerdict}
-use Rattle.block_check.proofs.Verdicts.{byTests, tested, few-records}
+use Rattle.block_parts.specs.Parts.{countOf, sumsRight, headerRight, numberRight, fillRight}
+use Rattle.block_check.specs.Blocks.{blockVerdict}
+use Rattle.block_check.proofs.Verdicts.{byTests, tested}
+use Rattle.block_parts.proofs.Counted.{few-records}
 use Rattle.block_check.proofs.check.judged.Statement.{statement}
 use Rattle.block_check.proofs.check.judged.Tie as tie
 

@@ -6,8 +6,8 @@ use Prim.Native.Nat.{ℕ}
 use native.Mathlib.Omega.{arith}
 use borrow.Author.Needs.{needs}
 use Rattle.check_verdicts.specs.Verdicts.{accepted, check, onAccepted}
-use Rattle.block_check.specs.Blocks.{countOf, recordsIn}
-use Rattle.block_check.proofs.Verdicts.{its-count}
+use Rattle.block_parts.specs.Parts.{countOf, recordsIn}
+use Rattle.block_parts.proofs.Counted.{its-count}
 use Rattle.block_check.proofs.check.records_of.Statement.{statement}
 use Rattle.block_check.proofs.check.records_of.Tie as tie
 

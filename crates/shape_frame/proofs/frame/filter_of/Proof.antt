@@ -8,7 +8,8 @@ use lib.Ieee.{Float}
 use lib.ListN.{replicate}
 use Rattle.row_bands.specs.declared.Band.{Band}
 use Rattle.law_rounding.specs.Floats.{f0}
-use Rattle.index_choice.specs.Quantizer.{indexOf, coefficientOf, orderOf, orderFrom, notAbove}
+use Rattle.index_choice.specs.Indices.{indexOf, orderOf, orderFrom, notAbove}
+use Rattle.index_coefficients.specs.Coefficients.{coefficientOf}
 use Rattle.shape_frame.specs.Analysis.{filterRecord, reflectionsOf}
 use Rattle.shape_gain.specs.declared.FilterGain.{FilterGain}
 use Rattle.shape_frame.specs.declared.Analysed.{Analysed}

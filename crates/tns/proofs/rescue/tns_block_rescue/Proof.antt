@@ -1,7 +1,7 @@
 -- It tells what the step says.
 use mathlib.Core.Path.{_∙_, ap}
 use borrow.Author.Needs.{needs}
-use Rattle.tns.specs.Rescue.{rescueFor}
+use Rattle.answer_block.specs.BlockAnswers.{rescueFor}
 use Rattle.tns.proofs.rescue.tns_block_rescue.Statement.{statement}
 use Rattle.tns.proofs.rescue.tns_block_rescue.Tie as tie
 

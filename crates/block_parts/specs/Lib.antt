@@ -1,0 +1,2 @@
+-- What a reader has to believe of a block's parts.
+pub mod Parts

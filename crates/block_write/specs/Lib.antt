@@ -1,2 +1,0 @@
--- What a reader has to believe of the calls on a block.
-pub mod BlockCalls
