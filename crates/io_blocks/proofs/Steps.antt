@@ -13,7 +13,7 @@ use Rattle.block_buffer.specs.Buffers.{laidOver}
 use Rattle.block_parts.proofs.Laid.{block-length}
 use Rattle.block_check.proofs.Verdicts.{accepted-block, some-bytes, accepted-too, block-past, written-block}
 use Rattle.block_buffer.proofs.Buffers.{as-told}
-use Rattle.io_blocks.specs.Runs.{verdictOf}
+use Rattle.io_blocks.specs.PutBlocks.{verdictOf}
 use Rattle.io_blocks.specs.declared.Way.{Way}
 use Rattle.io_blocks.specs.declared.Way.the-variants.{ToRecords, ToBlocks}
 

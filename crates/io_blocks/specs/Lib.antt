@@ -1,2 +1,2 @@
 -- What a reader has to believe of what blocks become.
-pub mod Runs
+pub mod PutBlocks

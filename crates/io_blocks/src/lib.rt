@@ -5,12 +5,12 @@ use block_check::BlockRefusal;
 use block_check::check_block;
 use law_numbers::least;
 use block_write::write_block;
-use io_streams::put;
+use text_put::put;
 ghost use mathlib.Core.Path.{_≡_};
 ghost use Prim.Native.Nat.{_≤_, _<_};
 ghost use lib.ListN.{length};
 ghost use Rattle.block_check.specs.Blocks.{readVerdict, writeVerdict};
-ghost use Rattle.io_blocks.specs.Runs.{sizeOf, verdictOf, StepDone, PutsBlocks};
+ghost use Rattle.io_blocks.specs.PutBlocks.{sizeOf, verdictOf, StepDone, PutsBlocks};
 
 // From a narration to its records, or from records to their narration.
 pub enum Way {
@@ -19,7 +19,7 @@ pub enum Way {
 }
 
 // How many bytes of input a block is: its own, or its records.
-fn size_of(way: Way) -> usize
+pub fn size_of(way: Way) -> usize
     ensures { λ r. ⌜ r ≡ sizeOf way ⌝ }
 {
     match way {

@@ -13,7 +13,7 @@ use Rattle.file_rescued.specs.Rescues.{Entry, entriesBy, Stepped, nextBy, stepT
 use Rattle.file_rescued.proofs.Steps.{step-first}
 use Rattle.text_report.specs.ReportText.{reportText}
 use Rattle.text_report.proofs.Lengths.{text-split}
-use Rattle.io_rescue.specs.RescuePieces.{stepsOf}
+use Rattle.io_rescue.specs.RescueSteps.{stepsOf}
 
 -- what a step adds to the file that comes out
 abbrev pub becomes : Verdict (List ℕ) → List ℕ

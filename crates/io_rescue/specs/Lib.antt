@@ -1,2 +1,2 @@
 -- What a reader has to believe of what comes of a piece of a damaged narration.
-pub mod RescuePieces
+pub mod RescueSteps

@@ -4,7 +4,7 @@ use law_numbers::least;
 use block_rescue::RescueAnswer;
 use block_rescue::check_kept;
 use block_rescue::rescue_block;
-use io_streams::put;
+use text_put::put;
 use text_report::put_kept;
 use text_report::put_left;
 ghost use mathlib.Core.Path.{_≡_};
@@ -13,7 +13,7 @@ ghost use lib.Dec.{ltb};
 ghost use lib.ListN.{length};
 ghost use Rattle.law_lists.specs.Portions.{portions};
 ghost use Rattle.file_rescued.specs.Rescues.{keptOf};
-ghost use Rattle.io_rescue.specs.RescuePieces.{TakesPortion, HasRoom, RescuesPiece};
+ghost use Rattle.io_rescue.specs.RescueSteps.{TakesPortion, HasRoom, RescuesPiece};
 
 // How many blocks of some bytes are kept. What is left over of the bytes is no block.
 pub fn count_kept(bytes: &[u8]) -> usize

@@ -1,3 +1,2 @@
--- What a reader has to believe of what programs share.
-pub mod Text
-pub mod Pieces
+-- What a reader has to believe of what a read gives.
+pub mod Reads

@@ -2,22 +2,19 @@
 use mathlib.Core.Path.{_≡_}
 use mathlib.Core.Bool.{true, false}
 use mathlib.Core.List.{List, []}
-use Prim.Native.Nat.{ℕ, _+_, _-_, _*_, _/_, _≤_}
-use lib.ListN.{length, take, drop}
+use Prim.Native.Nat.{ℕ, _+_, _*_, _/_, _≤_}
+use lib.ListN.{length, take}
 use Rattle.law_lists.specs.Portions.{portions}
 use Rattle.check_verdicts.specs.Verdicts.{numberOf}
 use Rattle.file_narration.specs.Files.{End, whole, refusedAt, Outcome}
-use Rattle.io_streams.specs.declared.streams.Read.{Read}
-use Rattle.io_streams.specs.declared.streams.Read.the-variants as read
+use Rattle.io_streams.specs.declared.Read.{Read}
+use Rattle.io_streams.specs.declared.Read.the-variants as read
 use Rattle.text_answers.specs.Wording.{blockRefusalText}
-use Rattle.io_blocks.specs.Runs.{sizeOf, blocksOf}
+use Rattle.io_rest.specs.Rest.{wholeBytes, KeepsRest}
+use Rattle.io_blocks.specs.PutBlocks.{sizeOf, blocksOf}
 use Rattle.io_blocks.specs.declared.Way.{Way}
 use Rattle.io_blocks.specs.declared.Way.the-variants.{ToRecords, ToBlocks}
-use Rattle.io_transfer.specs.declared.pieces.Standing.{Standing}
-
--- how many of the first bytes read are whole blocks
-abbrev pub wholeBytes : Way → ℕ → ℕ
-wholeBytes way read = sizeOf way * (read / sizeOf way)
+use Rattle.io_transfer.specs.declared.Standing.{Standing}
 
 -- how many of the bytes held are known to be whole where input fails: no block of a narration, and the records that were read
 abbrev pub knownBytes : Way → ℕ → ℕ
@@ -31,11 +28,10 @@ Lies outcome output = take (length (outcome .given)) output ≡ outcome .given
 -- The whole blocks of the bytes read are taken, from this number on. Where it goes on, nothing of them was refused and the next number is that behind
 -- them. What is left of the bytes is held.
 pub record TakesPiece (way : Way) (number read : ℕ) (found left output : List ℕ) (result : Standing) : Type 0 where
-  pub lies : Lies (blocksOf way number (take (wholeBytes way read) found)) output
-  pub whole-so-far : result .«goes_on» ≡ true → blocksOf way number (take (wholeBytes way read) found) .end ≡ whole
-  pub on : result .«goes_on» ≡ true → result .number ≡ number + length (portions (sizeOf way) (take (wholeBytes way read) found))
-  pub so-many : result .held ≡ read - wholeBytes way read
-  pub stays : take (result .held) left ≡ take (result .held) (drop (wholeBytes way read) found)
+  pub lies : Lies (blocksOf way number (take (wholeBytes (sizeOf way) read) found)) output
+  pub whole-so-far : result .«goes_on» ≡ true → blocksOf way number (take (wholeBytes (sizeOf way) read) found) .end ≡ whole
+  pub on : result .«goes_on» ≡ true → result .number ≡ number + length (portions (sizeOf way) (take (wholeBytes (sizeOf way) read) found))
+  pub keeps : KeepsRest (sizeOf way) read found left (result .held)
   pub in-range : result .number ≤ 65536
 
 -- The last bytes are taken as the last block, and nothing goes on.

@@ -1,5 +1,162 @@
 // What the programs that read and write narrations do alike: standard input is taken block by block to
-// standard output, in pieces of a fixed size, up to the first block that is refused.
-mod pieces;
+// standard output, up to the first block that is refused. It is read in pieces of a fixed size, each of
+// which holds a whole number of blocks, of either kind; what is left of one waits for the next read. What
+// was read before input fails is answered as far as it is whole.
+use io_blocks::Done;
+use io_blocks::Ended;
+use io_blocks::Way;
+use io_blocks::put_blocks;
+use io_blocks::size_of;
+use io_rest::keep_rest;
+use io_rest::whole_bytes;
+use io_streams::Read;
+use io_streams::read_after;
+use io_streams::refuse;
+use io_streams::write;
+use text_answers::put_block_refusal;
+ghost use mathlib.Core.Path.{_≡_};
+ghost use mathlib.Core.Bool.{true};
+ghost use Prim.Native.Nat.{_≤_, _<_};
+ghost use lib.ListN.{length, take};
+ghost use Rattle.io_streams.specs.Reads.{Within};
+ghost use Rattle.text_put.specs.Text.{Puts};
+ghost use Rattle.file_narration.specs.Files.{whole};
+ghost use Rattle.io_blocks.specs.PutBlocks.{endOf};
+ghost use Rattle.io_transfer.specs.Transfer.{endText, knownBytes, TakesPiece, TakesLast, AnswersRead};
 
-pub use pieces::run;
+// Where a program stands between two reads: the next block's number, how many bytes of a block not yet
+// whole are held at the start of the piece, and whether there is more to do.
+struct Standing {
+    number: u64,
+    held: usize,
+    goes_on: bool,
+}
+
+// How many of the bytes held are known to be whole where input fails: a block cut short is none, and of
+// records those that were read.
+fn known(way: Way, held: usize) -> usize
+    ensures { λ r. ⌜ r ≡ knownBytes way held ⌝ }
+{
+    match way {
+        Way::ToRecords => 0,
+        Way::ToBlocks => 24 * (held / 24),
+    }
+}
+
+// The line of how the blocks of a piece end: of a refusal, and nothing where there is none.
+fn put_end(put: Done, line: &mut [u8]) -> usize
+    ensures { λ r. ⌜ Puts (endText (endOf (put .ended) (put .next))) (now (line .entry)) 0 r (now (line .exit)) ⌝ }
+{
+    let next = put.next;
+    let ended = put.ended;
+    match ended {
+        Ended::Whole => 0,
+        Ended::Refused(why) => put_block_refusal(why.number(), next, line, 0),
+    }
+}
+
+// Tells a refusal on standard error, and to the launcher.
+fn tell(put: Done) {
+    let mut line = [0u8; 64];
+    let count = put_end(put, &mut line);
+    refuse(&line[..count]);
+}
+
+// Writes what was put, and then tells the refusal, if there is one. Answers whether to go on.
+fn settled(put: Done, out: &[u8]) -> bool
+    requires { ⌜ put .count ≤ length (now out) ⌝ }
+    ensures { λ r. ⌜ (r ≡ true → endOf (put .ended) (put .next) ≡ whole) ⌝ }
+{
+    let count = put.count;
+    let is_written = write(&out[..count]);
+    let ended = put.ended;
+    match ended {
+        Ended::Whole => is_written,
+        Ended::Refused(_) => {
+            if is_written {
+                tell(put);
+            }
+            false
+        }
+    }
+}
+
+// The whole blocks of what was read; the rest is kept.
+fn blocks_read(way: Way, input: &mut [u8], number: u64, read: usize, output: &mut [u8]) -> Standing
+    requires { ⌜ (number ≤ 65536) × (read ≤ 61440) × (length (now input) ≡ 61440) × (length (now output) ≡ 66048) ⌝ }
+    ensures { λ r. ⌜ TakesPiece way number read (now (input .entry)) (now (input .exit)) (now (output .exit)) r ⌝ }
+{
+    let size = size_of(way);
+    let whole = whole_bytes(size, read);
+    let put = put_blocks(way, number, &input[..whole], output);
+    let next = put.next;
+    let goes_on = settled(put, output);
+    let held = keep_rest(input, size, read);
+    Standing {
+        number: next,
+        held,
+        goes_on,
+    }
+}
+
+// Input has ended, or failed: what is held is the last block.
+fn last_block(way: Way, input: &[u8], number: u64, held: usize, output: &mut [u8]) -> Standing
+    requires { ⌜ (number ≤ 65536) × (held < 512) × (length (now input) ≡ 61440) × (length (now output) ≡ 66048) ⌝ }
+    ensures { λ r. ⌜ TakesLast way number (take held (now (input .entry))) (now (output .exit)) r ⌝ }
+{
+    let put = put_blocks(way, number, &input[..held], output);
+    let next = put.next;
+    settled(put, output);
+    Standing {
+        number: next,
+        held: 0,
+        goes_on: false,
+    }
+}
+
+// What there is to do after a read, by what it gave.
+fn answered(
+    way: Way,
+    got: Read,
+    input: &mut [u8],
+    standing: Standing,
+    output: &mut [u8],
+) -> Standing
+    requires { ⌜ (standing .number ≤ 65536) × (standing .held < 512) × (length (now input) ≡ 61440) × (length (now output) ≡ 66048) × Within (standing .held) (length (now input)) got ⌝ }
+    ensures { λ r. ⌜ AnswersRead way got standing (now (input .entry)) (now (input .exit)) (now (output .exit)) r ⌝ }
+{
+    let held = standing.held;
+    let number = standing.number;
+    match got {
+        Read::Bytes(count) => blocks_read(way, input, number, held + count, output),
+        Read::End => last_block(way, input, number, held, output),
+        Read::Failed => last_block(way, input, number, known(way, held), output),
+    }
+}
+
+// One read, and its answer.
+fn turn(way: Way, input: &mut [u8], standing: Standing, output: &mut [u8]) -> Standing
+    requires { ⌜ (standing .number ≤ 65536) × (standing .held < 512) × (length (now input) ≡ 61440) × (length (now output) ≡ 66048) ⌝ }
+    ensures { λ r. ⌜ (r .number ≤ 65536) × (r .held < 512) ⌝ }
+{
+    let held = standing.held;
+    let got = read_after(input, held);
+    answered(way, got, input, standing, output)
+}
+
+// Takes all of standard input to standard output. The turns are counted down from a number that no run uses
+// up, so that the loop ends.
+pub fn transfer(way: Way) {
+    let mut input = [0u8; 61440];
+    let mut output = [0u8; 66048];
+    let mut standing = Standing {
+        number: 0,
+        held: 0,
+        goes_on: true,
+    };
+    let mut turns = 0x20_0000_0000_0000u64;
+    while turns > 0 && standing.goes_on {
+        standing = turn(way, &mut input, standing, &mut output);
+        turns -= 1;
+    }
+}

@@ -7,7 +7,7 @@ use native.Mathlib.Omega.{arith}
 use lib.ListN.{length, length-append, take, drop}
 use lib.Seq.{take-nil, take-all}
 use Rattle.cost_bytes.specs.SideBytes.{lineOf}
-use Rattle.io_streams.specs.Text.{after}
+use Rattle.text_put.specs.Text.{after}
 use Rattle.text_answers.specs.Wording.{lineText}
 use Rattle.text_answers.proofs.Sayings.{line-at-most}
 use Rattle.prog_bits.specs.Output.{record20, linesText}

@@ -1,10 +1,11 @@
 -- Document 01, "The program reads 20-byte records": one line each, in order, numbered on.
 use mathlib.Core.Path.{_≡_}
 use mathlib.Core.List.{List, [], _++_}
-use Prim.Native.Nat.{ℕ, zero, suc, _+_, _*_, _/_, _%_}
+use Prim.Native.Nat.{ℕ, zero, suc, _+_, _*_, _/_}
 use lib.ListN.{take, drop}
 use Rattle.io.specs.Counts.{Counts}
 use Rattle.cost_bytes.specs.SideBytes.{lineOf}
+use Rattle.io_rest.specs.Rest.{KeepsRest}
 use Rattle.text_answers.specs.Wording.{lineText}
 use Rattle.prog_bits.specs.declared.Standing.{Standing}
 
@@ -25,5 +26,4 @@ pub record PutsLines (frame : ℕ) (bytes : List ℕ) (records count : ℕ) (lef
 -- the whole records of the first bytes read are answered, and what is left of those bytes is held
 pub record AnswersPiece (frame read : ℕ) (found left : List ℕ) (result : Standing) : Type 0 where
   pub next-frame : result .frame ≡ frame + read / 20
-  pub so-many : result .held ≡ read % 20
-  pub stays : take (result .held) left ≡ take (result .held) (drop (read / 20 * 20) found)
+  pub keeps : KeepsRest 20 read found left (result .held)

@@ -2,8 +2,8 @@
 // the bits that it costs, or why it is refused. The lines of the records read are proved to be those
 // of document 01; that they are read and written is tested. What was read before input ends or fails
 // is answered.
+use io_rest::keep_rest;
 use io_streams::Read;
-use io_streams::keep;
 use io_streams::read_after;
 use io_streams::write;
 use text_answers::put_line;
@@ -63,11 +63,9 @@ fn answer(input: &mut [u8], frame: u64, read: usize, output: &mut [u8]) -> Stand
     ensures { λ r. ⌜ AnswersPiece frame read (now (input .entry)) (now (input .exit)) r ⌝ }
 {
     let records = read / 20;
-    let whole = records * 20;
     let count = put_lines(frame, input, records, output);
     let goes_on = write(&output[..count]);
-    let held = read - whole;
-    keep(input, whole, held);
+    let held = keep_rest(input, 20, read);
     Standing {
         frame: frame + records as u64,
         held,
@@ -76,7 +74,7 @@ fn answer(input: &mut [u8], frame: u64, read: usize, output: &mut [u8]) -> Stand
 }
 
 // One read, and what there is to answer after it.
-fn piece(input: &mut [u8], standing: Standing, output: &mut [u8]) -> Standing
+fn turn(input: &mut [u8], standing: Standing, output: &mut [u8]) -> Standing
     requires { ⌜ 16000 ≡ length (now input) ⌝ }
     requires { ⌜ 65536 ≡ length (now output) ⌝ }
     requires { ⌜ standing .held < 20 ⌝ }
@@ -104,7 +102,7 @@ fn main() {
     };
     let mut turns = 0x20_0000_0000_0000u64;
     while turns > 0 && standing.goes_on {
-        standing = piece(&mut input, standing, &mut output);
+        standing = turn(&mut input, standing, &mut output);
         turns -= 1;
     }
 }

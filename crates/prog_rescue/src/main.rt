@@ -5,36 +5,21 @@
 // The damaged file is read twice: first its blocks to keep are counted, so that nothing is written where
 // there are too many. Assumes of the launcher (the script `tns`) what io_streams says, and that it gives
 // two arguments.
-mod names;
-mod passes;
-mod progress;
-
-use crate::names::complain_of;
-use crate::names::failed_at;
-use crate::names::is_free;
-use crate::names::make_part;
-use crate::names::named;
-use crate::names::part_name;
-use crate::passes::Standing;
-use crate::passes::count_pass;
-use crate::passes::mend_pass;
-use crate::progress::Progress;
-use crate::progress::of_file;
+use io_names::complain_of;
+use io_names::failed_at;
+use io_names::is_free;
+use io_names::make_part;
+use io_names::named;
+use io_paths::part_name;
+use io_progress::Progress;
+use io_progress::of_file;
+use io_reading::Standing;
+use io_reading::is_same;
+use io_reading_count::count_pass;
+use io_reading_mend::mend_pass;
 use io_rescue::are_too_many;
 use io_streams::failed;
 use io_streams::refuse;
-
-// Whether the second reading found as many blocks, kept ones and stray bytes as the first. It may not
-// have, where somebody writes to the file.
-fn is_same(counted: Standing, mended: Standing) -> bool {
-    if counted.place != mended.place {
-        return false;
-    }
-    if counted.kept != mended.kept {
-        return false;
-    }
-    counted.held == mended.held
-}
 
 // Fills the file that is made, and answers whether it is whole.
 fn is_filled(

@@ -2,8 +2,8 @@
 // C-11, up to the first block that is refused. What a block becomes is proved; that it is read and
 // written is tested.
 use io_blocks::Way;
-use io_transfer::run;
+use io_transfer::transfer;
 
 fn main() {
-    run(Way::ToBlocks);
+    transfer(Way::ToBlocks);
 }

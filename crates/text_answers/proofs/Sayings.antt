@@ -11,7 +11,7 @@ use Rattle.check_refusals.specs.declared.Refusal.{Refusal}
 use Rattle.check_refusals.proofs.Refusal.{the-type}
 use Rattle.check_refusals.proofs.Eight.{unplaced, of-eight}
 use Rattle.cost_bytes.specs.SideBytes.{Line, short, costs}
-use Rattle.io_streams.proofs.Decimals.{decimal-at-most}
+use Rattle.text_put.proofs.Decimals.{decimal-at-most}
 use Rattle.text_answers.specs.Wording.{answerText, sayingText, lineText}
 
 -- a refusal of an order or an index ends with its place, and what was found there is not said

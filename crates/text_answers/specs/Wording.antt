@@ -3,7 +3,7 @@ use mathlib.Core.List.{List, _++_}
 use Prim.Native.Nat.{ℕ}
 use Rattle.check_verdicts.specs.Verdicts.{numbered, placed, Verdict, accepted, refused}
 use Rattle.cost_bytes.specs.SideBytes.{Line, short, costs}
-use Rattle.io_streams.specs.Text.{ascii, decimal}
+use Rattle.text_put.specs.Text.{ascii, decimal}
 
 -- it always says "bits", also for 1; refusals 6 and 7 end with their place, the others after their number
 abbrev pub answerText : Verdict ℕ → List ℕ

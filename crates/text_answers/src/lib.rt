@@ -2,13 +2,13 @@
 use check_refusals::Refusal;
 use cost_call::CostAnswer;
 use cost_bytes::BytesAnswer;
-use io_streams::put;
-use io_streams::put_decimal;
+use text_put::put;
+use text_put::put_decimal;
 ghost use Rattle.check_verdicts.specs.Verdicts.{numbered, placed, refused};
 ghost use Rattle.check_refusals.specs.Refusals.{says};
 ghost use Rattle.cost_call.specs.Cost.{costSays};
 ghost use Rattle.cost_bytes.specs.SideBytes.{lineOf};
-ghost use Rattle.io_streams.specs.Text.{Puts};
+ghost use Rattle.text_put.specs.Text.{Puts};
 ghost use Rattle.text_answers.specs.Wording.{answerText, sayingText, lineText, blockRefusalText};
 
 fn put_number(number: u8, out: &mut [u8], at: usize) -> usize

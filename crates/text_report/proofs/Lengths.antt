@@ -8,7 +8,7 @@ use lib.Dec.{eqb, ltb}
 use lib.ListN.{length, length-append}
 use Rattle.check_verdicts.specs.Verdicts.{numberOf, Verdict, accepted, refused}
 use Rattle.block_parts.specs.Parts.{numberIn}
-use Rattle.io_streams.proofs.Decimals.{decimal-at-most}
+use Rattle.text_put.proofs.Decimals.{decimal-at-most}
 use Rattle.file_rescued.specs.Rescues.{Entry, dropped, moved, stray, entriesBy}
 use Rattle.text_report.specs.ReportText.{entryText, reportText}
 

@@ -2,7 +2,7 @@
 use mathlib.Core.List.{List, [], _∷_, _++_}
 use Prim.Native.Nat.{ℕ}
 use Rattle.check_verdicts.specs.Verdicts.{numberOf}
-use Rattle.io_streams.specs.Text.{ascii, decimal}
+use Rattle.text_put.specs.Text.{ascii, decimal}
 use Rattle.file_rescued.specs.Rescues.{Entry, dropped, moved, stray}
 
 -- a block, by its place in the damaged file

@@ -1,8 +1,8 @@
 // The lines of a rescue's report, put into a text one after the other.
-use io_streams::put;
-use io_streams::put_decimal;
+use text_put::put;
+use text_put::put_decimal;
 ghost use Rattle.check_verdicts.specs.Verdicts.{numbered};
-ghost use Rattle.io_streams.specs.Text.{Puts};
+ghost use Rattle.text_put.specs.Text.{Puts};
 ghost use Rattle.file_rescued.specs.Rescues.{dropped, moved, stray, keptEntries, leftEntries};
 ghost use Rattle.text_report.specs.ReportText.{blockText, entryText, reportText};
 

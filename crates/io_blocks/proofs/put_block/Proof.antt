@@ -1,7 +1,7 @@
 -- By the way.
 use mathlib.Core.Path.{sym, subst}
 use borrow.Author.Needs.{needs}
-use Rattle.io_blocks.specs.Runs.{verdictOf, StepDone}
+use Rattle.io_blocks.specs.PutBlocks.{verdictOf, StepDone}
 use Rattle.io_blocks.specs.declared.Way.{Way}
 use Rattle.io_blocks.proofs.put_block.Statement.{statement}
 use Rattle.io_blocks.proofs.put_block.Tie as tie

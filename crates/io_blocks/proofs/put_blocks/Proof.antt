@@ -13,11 +13,11 @@ use Rattle.law_lists.proofs.Portions.{portions-at, portions-none}
 use Rattle.check_verdicts.specs.Verdicts.{Fault, Verdict, accepted, refused}
 use Rattle.file_narration.specs.Files.{whole, refusedAt, Outcome, nothing, before, goOn, runFrom}
 use Rattle.file_narration.proofs.ReadBack.{run-none}
-use Rattle.io_blocks.specs.Runs.{sizeOf, verdictOf, StepDone, blocksOf}
+use Rattle.io_blocks.specs.PutBlocks.{sizeOf, verdictOf, StepDone, blocksOf}
 use Rattle.io_blocks.specs.declared.Way.{Way}
 use Rattle.io_blocks.specs.declared.Way.the-variants.{ToRecords, ToBlocks}
 use Rattle.io_blocks.specs.declared.Step.{Step}
-use Rattle.io_streams.proofs.Texts.{all-put, put-few}
+use Rattle.text_put.proofs.Texts.{all-put, put-few}
 use Rattle.io_blocks.proofs.Steps.{in-range}
 use Rattle.io_blocks.proofs.put_blocks.Statement.{statement}
 use Rattle.io_blocks.proofs.put_blocks.Tie as tie

@@ -11,7 +11,7 @@ use Rattle.block_parts.specs.Parts.{countOf}
 use Rattle.block_check.specs.Blocks.{readVerdict}
 use Rattle.block_check.specs.Told.{blockSays}
 use Rattle.block_check.proofs.Verdicts.{Given, given-some, given-none, refused-too}
-use Rattle.io_streams.proofs.Texts.{puts-none}
+use Rattle.text_put.proofs.Texts.{puts-none}
 use Rattle.io_blocks.proofs.put_records.Statement.{statement}
 use Rattle.io_blocks.proofs.put_records.Tie as tie
 

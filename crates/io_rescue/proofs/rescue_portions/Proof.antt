@@ -9,7 +9,7 @@ use borrow.Author.Needs.{needs}
 use lib.ListN.{length, take, drop, length-take, length-drop}
 use Rattle.io.specs.Counts.{Counts}
 use Rattle.block_rescue.specs.Rescue.{rescueVerdict}
-use Rattle.io_streams.proofs.Texts.{all-put, put-few}
+use Rattle.text_put.proofs.Texts.{all-put, put-few}
 use Rattle.file_rescued.specs.Rescues.{entriesBy}
 use Rattle.text_report.specs.ReportText.{reportText}
 use Rattle.text_report.proofs.Lengths.{entries-at-most}

@@ -11,7 +11,7 @@ use Rattle.block_check.specs.Told.{blockFault}
 use Rattle.block_check.specs.declared.check.BlockRefusal.{BlockRefusal}
 use Rattle.block_check.specs.declared.check.BlockRefusal.the-variants.{Length, Sums, Layout, Record}
 use Rattle.block_rescue.specs.Rescue.{rescueVerdict}
-use Rattle.io_streams.proofs.Texts.{puts-same}
+use Rattle.text_put.proofs.Texts.{puts-same}
 use Rattle.file_rescued.specs.Rescues.{entriesBy, keptEntries, leftEntries, nextBy}
 use Rattle.text_report.specs.ReportText.{reportText}
 use Rattle.io_rescue.proofs.Buffered.{KeptThere, kept-there, not-there}

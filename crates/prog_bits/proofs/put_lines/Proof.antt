@@ -6,8 +6,8 @@ use native.Mathlib.Omega.{arith}
 use borrow.Author.Needs.{needs}
 use lib.ListN.{length}
 use Rattle.cost_bytes.specs.SideBytes.{lineOf}
-use Rattle.io_streams.specs.Text.{Puts}
-use Rattle.io_streams.proofs.Texts.{puts-same, puts-on}
+use Rattle.text_put.specs.Text.{Puts}
+use Rattle.text_put.proofs.Texts.{puts-same, puts-on}
 use Rattle.text_answers.specs.Wording.{lineText}
 use Rattle.prog_bits.specs.Output.{record20, linesText}
 use Rattle.prog_bits.proofs.LinesPut.{no-lines, its-record, one-more, all-lines}

@@ -1,8 +1,8 @@
 -- The bits, or the refusal.
 use mathlib.Core.Path.{ap, sym}
 use native.Mathlib.Omega.{arith}
-use Rattle.io_streams.specs.Text.{ascii, decimal}
-use Rattle.io_streams.proofs.Texts.{puts-same, puts-on}
+use Rattle.text_put.specs.Text.{ascii, decimal}
+use Rattle.text_put.proofs.Texts.{puts-same, puts-on}
 use Rattle.cost_call.specs.Cost.{costSays}
 use Rattle.cost_call.specs.declared.CostAnswer.{CostAnswer}
 use Rattle.text_answers.specs.Wording.{answerText}

@@ -1,7 +1,7 @@
 -- A word and a number, the one after the other.
 use native.Mathlib.Omega.{arith}
-use Rattle.io_streams.specs.Text.{ascii, decimal}
-use Rattle.io_streams.proofs.Texts.{puts-on}
+use Rattle.text_put.specs.Text.{ascii, decimal}
+use Rattle.text_put.proofs.Texts.{puts-on}
 use borrow.Author.Needs.{needs}
 use Rattle.text_answers.proofs.put_number.Statement.{statement}
 use Rattle.text_answers.proofs.put_number.Tie as tie

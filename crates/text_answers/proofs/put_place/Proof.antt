@@ -1,8 +1,8 @@
 -- The refusal's number, a word and the place, one after the other.
 use mathlib.Core.List.{_++_}
 use native.Mathlib.Omega.{arith}
-use Rattle.io_streams.specs.Text.{ascii, decimal}
-use Rattle.io_streams.proofs.Texts.{puts-on}
+use Rattle.text_put.specs.Text.{ascii, decimal}
+use Rattle.text_put.proofs.Texts.{puts-on}
 use Rattle.check_verdicts.specs.Verdicts.{numbered, refused}
 use Rattle.text_answers.specs.Wording.{answerText}
 use borrow.Author.Needs.{needs}

@@ -1,7 +1,7 @@
 -- Each refusal with its place, or after its number.
 use mathlib.Core.Path.{refl}
 use Rattle.check_refusals.specs.declared.Refusal.the-variants.{Order, Index}
-use Rattle.io_streams.proofs.Texts.{puts-same}
+use Rattle.text_put.proofs.Texts.{puts-same}
 use Rattle.text_answers.proofs.Sayings.{with-place, without-place}
 use borrow.Author.Needs.{needs}
 use Rattle.text_answers.proofs.put_refusal.Statement.{statement}

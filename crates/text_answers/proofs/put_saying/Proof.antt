@@ -1,6 +1,6 @@
 -- That the bytes are too few, or what the cost call answers.
 use mathlib.Core.Path.{ap, sym, _∙_}
-use Rattle.io_streams.proofs.Texts.{puts-same}
+use Rattle.text_put.proofs.Texts.{puts-same}
 use Rattle.cost_bytes.specs.SideBytes.{bytesSay}
 use Rattle.text_answers.specs.Wording.{sayingText}
 use borrow.Author.Needs.{needs}

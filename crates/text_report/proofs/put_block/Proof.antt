@@ -1,8 +1,8 @@
 -- A word and a number, the one after the other.
 use native.Mathlib.Omega.{arith}
 use borrow.Author.Needs.{needs}
-use Rattle.io_streams.specs.Text.{ascii, decimal}
-use Rattle.io_streams.proofs.Texts.{puts-on}
+use Rattle.text_put.specs.Text.{ascii, decimal}
+use Rattle.text_put.proofs.Texts.{puts-on}
 use Rattle.text_report.proofs.put_block.Statement.{statement}
 use Rattle.text_report.proofs.put_block.Tie as tie
 

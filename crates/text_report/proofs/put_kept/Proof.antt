@@ -5,7 +5,7 @@ use mathlib.Core.List.{List, [], _∷_, append-nil}
 use Prim.Native.Nat.{ℕ}
 use borrow.Author.Needs.{needs}
 use borrow.Author.Tests.{eq-eqb, ne-eqb}
-use Rattle.io_streams.proofs.Texts.{puts-same}
+use Rattle.text_put.proofs.Texts.{puts-same}
 use Rattle.file_rescued.specs.Rescues.{Entry, moved, keptEntries}
 use Rattle.text_report.specs.ReportText.{entryText, reportText}
 use Rattle.text_report.proofs.put_kept.Statement.{statement}

@@ -5,7 +5,7 @@ use Prim.Native.Nat.{ℕ, _<_, _≤_}
 use borrow.Author.Needs.{needs}
 use borrow.Author.Tests.{lt-ltb, le-ltb}
 use Rattle.check_verdicts.specs.Verdicts.{Fault, numbered}
-use Rattle.io_streams.proofs.Texts.{puts-same}
+use Rattle.text_put.proofs.Texts.{puts-same}
 use Rattle.file_rescued.specs.Rescues.{dropped, stray, leftEntries}
 use Rattle.text_report.specs.ReportText.{entryText, reportText}
 use Rattle.text_report.proofs.put_left.Statement.{statement}

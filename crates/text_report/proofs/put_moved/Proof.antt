@@ -2,8 +2,8 @@
 use mathlib.Core.List.{_++_}
 use native.Mathlib.Omega.{arith}
 use borrow.Author.Needs.{needs}
-use Rattle.io_streams.specs.Text.{ascii, decimal}
-use Rattle.io_streams.proofs.Texts.{puts-on}
+use Rattle.text_put.specs.Text.{ascii, decimal}
+use Rattle.text_put.proofs.Texts.{puts-on}
 use Rattle.text_report.specs.ReportText.{blockText}
 use Rattle.text_report.proofs.put_moved.Statement.{statement}
 use Rattle.text_report.proofs.put_moved.Tie as tie

@@ -1,0 +1,111 @@
+// Files by their names: whether a name is taken, and how the file that is made gets its own. Nothing of
+// this can be promised, since no contract says what the system does with a name.
+use io_paths::c_path;
+use io_paths::folder_of;
+use io_paths::part_name;
+use io_streams::complain;
+use io_streams::failed;
+use text_put::put;
+
+const LONGEST: usize = 4200;
+
+// Says what failed of a file, by its name, and the system's reason.
+pub fn failed_at(name: &[u8]) {
+    let mut text = [0u8; LONGEST];
+    let begun = put(b"tns: ", &mut text, 0);
+    let count = put(name, &mut text, begun);
+    failed(&text[..count]);
+}
+
+// Says something else of a file, by its name.
+pub fn complain_of(name: &[u8], what: &[u8]) {
+    let mut text = [0u8; LONGEST];
+    let begun = put(b"tns: ", &mut text, 0);
+    let said = put(name, &mut text, begun);
+    let count = put(what, &mut text, said);
+    complain(&text[..count]);
+}
+
+// Whether nothing has this name yet, not even a link to nothing. A link can be read; of anything else that
+// is there the system says that it is none. What stands in the way is said.
+pub fn is_free(path: &[u8]) -> bool {
+    if path.len() > 4095 {
+        // No name is as long: to open it says so.
+        os::open_read(path);
+        failed_at(path);
+        return false;
+    }
+    let name = c_path(path);
+    let mut text = [0u8; 1];
+    let got = libc::readlink(&name, &mut text);
+    if got >= 0 {
+        complain_of(path, b": File exists\n");
+        return false;
+    }
+    let why = os::errno();
+    if why == libc::EINVAL {
+        complain_of(path, b": File exists\n");
+        return false;
+    }
+    if why != libc::ENOENT {
+        failed_at(path);
+        return false;
+    }
+    true
+}
+
+// Makes a file beside the place of this one, under the first such name that is not taken. Answers its
+// descriptor, or one below 0, and gives the number in its name.
+pub fn make_part(path: &[u8], number: &mut u64) -> i32 {
+    let mut name = [0u8; LONGEST];
+    let mut tried = 0u64;
+    while tried < 1000 {
+        *number = tried;
+        let count = part_name(path, tried, &mut name);
+        let descriptor = os::create(&name[..count]);
+        if descriptor >= 0 {
+            return descriptor;
+        }
+        if os::errno() != libc::EEXIST {
+            return -1;
+        }
+        tried += 1;
+    }
+    -1
+}
+
+// What is known of a folder's names reaches the disk, as far as its file system can do that.
+fn folder_settled(path: &[u8]) {
+    let folder = folder_of(path);
+    let mut descriptor = -1i32;
+    if folder == 0 {
+        descriptor = os::open_read(b".");
+    } else {
+        descriptor = os::open_read(&path[..folder]);
+    }
+    if descriptor >= 0 {
+        libc::fsync(descriptor);
+        libc::close(descriptor);
+    }
+}
+
+// Gives the file that was made its own name, once it is on the disk. Answers whether it has it.
+pub fn named(descriptor: i32, name: &[u8], path: &[u8]) -> bool {
+    if libc::fsync(descriptor) != 0 {
+        failed_at(path);
+        return false;
+    }
+    if libc::close(descriptor) != 0 {
+        failed_at(path);
+        return false;
+    }
+    if !is_free(path) {
+        return false;
+    }
+    if os::rename(name, path) != 0 {
+        failed_at(path);
+        return false;
+    }
+    folder_settled(path);
+    true
+}

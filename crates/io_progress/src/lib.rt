@@ -1,0 +1,96 @@
+// How far a rescue is, on standard error where that is a terminal: the part of both readings that is done,
+// each second from the second one on. And how a file is named where something is said of it meanwhile.
+// What stands on a terminal, and what the clock says, cannot be promised.
+use libc::STDERR_FILENO;
+use text_put::put;
+use text_put::put_decimal;
+ghost use Rattle.io.specs.Counts.{Counts};
+
+// What is known of a run: whether its progress is shown, how large its file is, the second in which it
+// began and the last that was seen, and whether something stands on the terminal.
+pub struct Progress {
+    pub is_terminal: bool,
+    pub size: u64,
+    pub began: u64,
+    pub second: u64,
+    pub is_shown: bool,
+}
+
+// A number of the system's, or 0 where it has none and answers one below 0.
+fn known(answer: i64) -> u64 {
+    if answer < 0 {
+        return 0;
+    }
+    answer as u64
+}
+
+// The seconds of the clock.
+pub fn seconds() -> u64 {
+    let mut stored = 0i64;
+    let now = libc::time(&mut stored);
+    known(now)
+}
+
+// A run that begins with a file.
+pub fn of_file(descriptor: i32) -> Progress {
+    let is_terminal = libc::isatty(STDERR_FILENO) == 1;
+    let end = libc::lseek(descriptor, 0, libc::SEEK_END);
+    let now = seconds();
+    Progress {
+        is_terminal,
+        size: known(end),
+        began: now,
+        second: now,
+        is_shown: false,
+    }
+}
+
+fn show(percent: u64) {
+    let mut text = [0u8; 32];
+    let begun = put(b"\rtns: ", &mut text, 0);
+    let numbered = put_decimal(percent, &mut text, begun);
+    let count = put(b"%", &mut text, numbered);
+    io::write_all(STDERR_FILENO, &text[..count]);
+}
+
+// So many blocks are done, of both readings of the file.
+pub fn shown(progress: Progress, done: u64) -> Progress {
+    if !progress.is_terminal {
+        return progress;
+    }
+    let now = seconds();
+    if now == progress.second {
+        return progress;
+    }
+    let is_long = now > progress.began && now - progress.began > 1;
+    if is_long {
+        show(done / (progress.size / 25600 + 1));
+    }
+    Progress {
+        is_terminal: true,
+        size: progress.size,
+        began: progress.began,
+        second: now,
+        is_shown: is_long,
+    }
+}
+
+// What stands on the terminal is gone.
+pub fn erase(progress: Progress) {
+    if progress.is_shown {
+        io::write_all(STDERR_FILENO, b"\r           \r");
+    }
+}
+
+// Puts how a file is named where something is said of it, in the place of what stands on the terminal.
+pub fn put_name(progress: Progress, name: &[u8], text: &mut [u8]) -> usize
+    ensures { λ r. ⌜ Counts r (now (text .exit)) ⌝ }
+{
+    if progress.is_shown {
+        let erased = put(b"\r           \r", text, 0);
+        let begun = put(b"tns: ", text, erased);
+        return put(name, text, begun);
+    }
+    let begun = put(b"tns: ", text, 0);
+    put(name, text, begun)
+}

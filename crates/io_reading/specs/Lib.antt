@@ -1,0 +1,2 @@
+-- What a reader has to believe of both readings of a damaged file.
+pub mod Passes

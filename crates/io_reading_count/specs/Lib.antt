@@ -1,0 +1,2 @@
+-- What a reader has to believe of the first reading of a damaged file.
+pub mod FirstReading

@@ -1,0 +1,71 @@
+// The first reading of a damaged file, in pieces of a fixed size: it counts the blocks to keep, so that
+// nothing is written where there are too many.
+use io_progress::Progress;
+use io_progress::erase;
+use io_progress::shown;
+use io_reading::Standing;
+use io_reading::begun;
+use io_reading::ended;
+use io_reading::read_named;
+use io_rescue::count_kept;
+use io_rest::keep_rest;
+use io_streams::Read;
+ghost use mathlib.Core.Path.{_≡_};
+ghost use Prim.Native.Nat.{_+_, _≤_, _<_};
+ghost use lib.ListN.{length};
+ghost use Rattle.io_reading_count.specs.FirstReading.{CountsPiece};
+
+// Counts the blocks to keep among the whole ones of the first `read` bytes. What is left of the bytes is
+// held.
+fn counted(input: &mut [u8], standing: Standing, read: usize) -> Standing
+    requires { ⌜ (read ≤ 61440) × (length (now input) ≡ 61440) × (standing .place < 4611686018427387904) × (standing .kept < 4611686018427387904) ⌝ }
+    ensures { λ r. ⌜ CountsPiece standing read (now (input .entry)) (now (input .exit)) r ⌝ }
+{
+    let blocks = read / 512;
+    let whole = 512 * blocks;
+    let kept = count_kept(&input[..whole]);
+    let held = keep_rest(input, 512, read);
+    Standing {
+        place: standing.place + blocks as u64,
+        kept: standing.kept + kept as u64,
+        held,
+        goes_on: true,
+        is_well: true,
+    }
+}
+
+// One read, and what it adds.
+fn count_turn(
+    descriptor: i32,
+    name: &[u8],
+    input: &mut [u8],
+    standing: Standing,
+    shows: Progress,
+) -> Standing
+    requires { ⌜ (length (now input) ≡ 61440) × (standing .place < 4611686018427387904) × (standing .kept < 4611686018427387904) × (standing .held < 512) ⌝ }
+    ensures { λ r. ⌜ (r .place ≤ standing .place + 120) × (r .kept ≤ standing .kept + 120) × (r .held < 512) ⌝ }
+{
+    let held = standing.held;
+    let got = read_named(descriptor, name, shows, input, held);
+    match got {
+        Read::Bytes(count) => counted(input, standing, held + count),
+        Read::End => ended(standing, true),
+        Read::Failed => ended(standing, false),
+    }
+}
+
+// Reads the file to its end, and answers how many blocks it has, how many are kept and how many bytes are
+// left over. The turns are counted down from a number that no run uses up, so that the loop ends.
+pub fn count_pass(descriptor: i32, name: &[u8], progress: Progress) -> Standing {
+    let mut input = [0u8; 61440];
+    let mut standing = begun();
+    let mut shows = progress;
+    let mut turns = 0x20_0000_0000_0000u64;
+    while turns > 0 && standing.goes_on {
+        turns -= 1;
+        standing = count_turn(descriptor, name, &mut input, standing, shows);
+        shows = shown(shows, standing.place);
+    }
+    erase(shows);
+    standing
+}

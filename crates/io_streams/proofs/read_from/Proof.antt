@@ -1,0 +1,51 @@
+-- A read stays within the part that it is lent.
+use mathlib.Core.Path.{_≡_}
+use mathlib.Core.List.{List}
+use Prim.Native.Nat.{ℕ, _-_, _≤_}
+use native.Mathlib.Omega.{arith}
+use borrow.Author.Needs.{needs}
+use lib.ListN.{length, take}
+use lib.Seq.{take-at, length-take-le}
+use borrow.Rule.Slice.PartMut.{putMid}
+use Rattle.io_streams.proofs.read_from.Statement.{statement}
+use Rattle.io_streams.proofs.read_from.Tie as tie
+
+-- the bytes before a part that is read anew
+held-kept : (held count : ℕ) (bytes part : List ℕ) → held ≤ length bytes → take held (putMid held count bytes part) ≡ take held bytes
+held-kept held count bytes part h = take-at (take held bytes) _ held (length-take-le held bytes h)
+
+returns-2 : tie.Need-returns-2
+returns-2 c =
+    let g = c .before .before .before .before .before .before .before .before .before .args in
+    record { within = tt; stays = held-kept (g .held) (length (g .piece .now) - g .held) (g .piece .now) (c .before .before .before .before .read .last .1 .0) (omega arith) }
+
+returns-3 : tie.Need-returns-3
+returns-3 c =
+    let g = c .before .before .before .before .before .before .before .before .before .before .before .before .args in
+    record { within = tt; stays = held-kept (g .held) (length (g .piece .now) - g .held) (g .piece .now) (c .before .before .before .before .before .before .before .read .last .1 .0) (omega arith) }
+
+returns-4 : tie.Need-returns-4
+returns-4 c =
+    let g = c .before .before .before .before .before .before .before .before .before .before .before .before .args in
+    record { within = search needs; stays = held-kept (g .held) (length (g .piece .now) - g .held) (g .piece .now) (c .before .before .before .before .before .before .before .read .last .1 .0) (omega arith) }
+
+pub read-from-spec : {M : Type 1} → statement M
+read-from-spec =
+    tie.close
+    (tie.spec
+    (λ c. search needs)
+    (λ c. search needs)
+    (λ c. search needs)
+    (λ c. search needs)
+    (λ c κs. search needs)
+    (λ c κs. search needs)
+    (λ c. search needs)
+    returns-2
+    (λ c. search needs)
+    (λ c. search needs)
+    (λ c. search needs)
+    (λ c κs. search needs)
+    (λ c. search needs)
+    returns-3
+    (λ c. search needs)
+    returns-4)
