@@ -1,11 +1,11 @@
 // The parts of a block of a narration: up to twenty records in 512 bytes, with its number, a header, fill
 // and two sums. Each part has a test of its own. The tests of a block require its 512 bytes: the call has
 // checked the length, refusal 9, before it looks at a part, and no test looks again.
-use law_numbers::least;
 use block_numbers::sums_of;
 use block_numbers::word_of;
 use block_record::is_sound;
 use check_limits::none_over;
+use law_numbers::least;
 ghost use mathlib.Core.Path.{_≡_};
 ghost use Prim.Native.Nat.{_≤_};
 ghost use lib.ListN.{length};

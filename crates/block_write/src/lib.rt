@@ -2,9 +2,9 @@
 use block_buffer::lay;
 use block_check::BlockAnswer;
 use block_check::BlockRefusal;
-use law_numbers::least;
 use block_numbers::sums_of;
 use block_parts::all_sound;
+use law_numbers::least;
 ghost use mathlib.Core.Path.{_≡_};
 ghost use mathlib.Core.List.{_++_};
 ghost use Prim.Native.Nat.{_≤_};

@@ -1,7 +1,7 @@
 // What a decode call at a line checks after refusals 1 to 7, which all decode calls have: 16 and 17.
-use row_bands::last_stop;
 use check_refusals::Refusal;
 use row_bands::Row;
+use row_bands::last_stop;
 ghost use mathlib.Core.Path.{_≡_};
 ghost use Rattle.check_verdicts.specs.Verdicts.{noFault};
 ghost use Rattle.check_line.specs.LineChecks.{lineChecks, lineCheckSays};

@@ -3,8 +3,8 @@
 use block_check::BlockAnswer;
 use block_check::BlockRefusal;
 use block_check::check_block;
-use law_numbers::least;
 use block_write::write_block;
+use law_numbers::least;
 use text_put::put;
 ghost use mathlib.Core.Path.{_≡_};
 ghost use Prim.Native.Nat.{_≤_, _<_};

@@ -1,9 +1,9 @@
 // What the blocks of a piece of a damaged narration become, step by step: the bytes of the file that
 // comes out, and the lines of the report. And how many of them are kept, which is asked first.
-use law_numbers::least;
 use block_rescue::RescueAnswer;
 use block_rescue::check_kept;
 use block_rescue::rescue_block;
+use law_numbers::least;
 use text_put::put;
 use text_report::put_kept;
 use text_report::put_left;

@@ -1,22 +1,11 @@
 // What the filters of a row do to a spectrum, for either lattice, and the laws of it: the decode calls
 // and the encode call are its instances. The code is only that which cuts a row at a line.
+use law_numbers::least;
+use law_numbers::most;
 use row_bands::Band;
 use row_bands::Row;
 ghost use mathlib.Core.Path.{_≡_};
-ghost use Prim.Native.Nat.{min, max};
 ghost use Rattle.lattice_rows.specs.Split.{bandBelowLine, bandFromLine, rowBelowLine, rowFromLine};
-
-fn least(a: usize, b: usize) -> usize
-    ensures { λ r. ⌜ r ≡ min a b ⌝ }
-{
-    if a < b { a } else { b }
-}
-
-fn most(a: usize, b: usize) -> usize
-    ensures { λ r. ⌜ r ≡ max a b ⌝ }
-{
-    if a < b { b } else { a }
-}
 
 fn band_below_line(n: usize, band: Band) -> Band
     ensures { λ r. ⌜ r ≡ bandBelowLine n band ⌝ }

@@ -1,8 +1,8 @@
 // What becomes of a filter's reflection coefficients: E's `apply_quantization`, by the index rule and
 // its table. Any eight numbers may be given.
-use index_coefficients::coefficient_of;
 use index_choice::index_of;
 use index_choice::order_of;
+use index_coefficients::coefficient_of;
 ghost use mathlib.Core.Path.{_≡_};
 ghost use mathlib.Core.List.{map};
 ghost use Rattle.index_choice.specs.Indices.{indexOf};

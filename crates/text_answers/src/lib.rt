@@ -1,7 +1,7 @@
 // The text of a record's line, as the bits program writes it, and that of a refused block.
 use check_refusals::Refusal;
-use cost_call::CostAnswer;
 use cost_bytes::BytesAnswer;
+use cost_call::CostAnswer;
 use text_put::put;
 use text_put::put_decimal;
 ghost use Rattle.check_verdicts.specs.Verdicts.{numbered, placed, refused};

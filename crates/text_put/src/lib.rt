@@ -1,14 +1,7 @@
 // Text in ASCII, put piece by piece into a slice that is written as a whole. It knows nothing of reading
 // and writing, and demands nothing: what there is no room for is left out.
-ghost use mathlib.Core.Path.{_≡_};
-ghost use Prim.Native.Nat.{min};
+use law_numbers::least;
 ghost use Rattle.text_put.specs.Text.{decimal, Puts};
-
-fn least(a: usize, b: usize) -> usize
-    ensures { λ r. ⌜ r ≡ min a b ⌝ }
-{
-    if a < b { a } else { b }
-}
 
 // Puts a text after the first `at` bytes of `out`, as much of it as there is room for, and answers how
 // many bytes there are then.
