@@ -1,7 +1,7 @@
 """A model of block files, to be read beside document 02, C-11 and C-16: records, sums,
 blocks and files, and what is kept of damaged ones, one function for each rule. It is
-written from the documents and shares nothing with the port. The cost of a record is
-document 01's (model.py).
+written from the documents and shares nothing with the port, nor with the one other
+model, the gate's (tests/narration.c). The cost of a record is document 01's (model.py).
 
 Where a block is refused, the model also says which of the refusal's reasons is met
 first, so that a comparison can count them.

@@ -1,11 +1,11 @@
-//! Blocks of a narration, one at a time, against the model of C-11 and C-16 in `common/narrations.rs`. Every
-//! call is made by the export as C makes it and by the crate, and of every byte that is lent it is known
-//! whether the call wrote it.
+//! Blocks of a narration, one at a time, against the gate's model of C-11 and C-16 (`common/narrations.rs`).
+//! Every call is made by the export as C makes it and by the crate, and must answer and write what the model
+//! says; of every byte that is lent it is known whether the call wrote it.
 
 mod common;
 
 use common::narrations::{
-    block, record, records, records_from, renumbered, rescue_verdict, sealed, sound, sums, verdict,
+    block, file, number_in, priced, records, records_from, renumbered, sealed, sums, verdict,
     with_bits, with_sums, Block, Bytes, BITS, INDICES, ORDERS,
 };
 use common::{List, Record as Listed};
@@ -57,6 +57,17 @@ fn answer_of_crate(answer: Result<usize, BlockRefusal>) -> Result<u16, u16> {
     records.map_err(BlockRefusal::number)
 }
 
+/// What a call must leave that says this: its number with the bytes that it writes, or its refusal.
+fn wanted(lent: usize, said: Result<(u16, Vec<u8>), u16>) -> Left {
+    let (answer, bytes) = match said {
+        Ok((number, bytes)) => (Ok(number), bytes),
+        Err(refusal) => (Err(refusal), vec![]),
+    };
+    let mut written: Vec<_> = bytes.into_iter().map(Some).collect();
+    written.resize(lent, None);
+    (answer, written)
+}
+
 fn write(number: u64, records: &[u8]) -> Left {
     let lent = records.to_vec();
     // Sound: each pointer is good for its length, and no two overlap.
@@ -66,6 +77,7 @@ fn write(number: u64, records: &[u8]) -> Left {
     assert_eq!(lent, records);
     let by_crate = left(|block| answer_of_crate(write_block(number, records, block)));
     assert_eq!(by_export, by_crate);
+    assert_eq!(by_export, wanted(512, verdict('w', number, records)));
     by_export
 }
 
@@ -78,6 +90,7 @@ fn read(number: u64, block: &[u8]) -> Left {
     assert_eq!(lent, block);
     let by_crate = left(|records| answer_of_crate(read_block(number, block, records)));
     assert_eq!(by_export, by_crate);
+    assert_eq!(by_export, wanted(480, verdict('r', number, block)));
     by_export
 }
 
@@ -97,40 +110,39 @@ fn rescue(number: u64, bytes: &[u8]) -> Left {
     assert_eq!(lent, bytes);
     let by_crate = left(|block| rescue_block(number, bytes, block).map_err(BlockRefusal::number));
     assert_eq!(by_export, by_crate);
+    assert_eq!(by_export, wanted(512, verdict('m', number, bytes)));
     by_export
 }
 
 /// The call writes the model's block, all of it; it takes so many records.
 fn assert_written(number: u64, bytes: &[u8], taken: &[Bytes]) {
-    let wanted = block(number, taken).map(Some).to_vec();
-    assert_eq!(write(number, bytes), (Ok(taken.len() as u16), wanted));
+    let made = block(number, taken).to_vec();
+    let found = write(number, bytes);
+    assert_eq!(found, wanted(512, Ok((taken.len() as u16, made))));
 }
 
 /// The call gives these records and leaves what is lent behind them.
-fn assert_read(number: u64, bytes: &[u8], wanted: &[Bytes]) {
-    let mut given: Vec<_> = wanted.concat().into_iter().map(Some).collect();
-    given.resize(480, None);
-    assert_eq!(read(number, bytes), (Ok(wanted.len() as u16), given));
+fn assert_read(number: u64, bytes: &[u8], list: &[Bytes]) {
+    let found = read(number, bytes);
+    assert_eq!(found, wanted(480, Ok((list.len() as u16, list.concat()))));
 }
 
 fn assert_not_written(number: u64, bytes: &[u8], refusal: u16) {
-    assert_eq!(write(number, bytes), (Err(refusal), vec![None; 512]));
+    assert_eq!(write(number, bytes), wanted(512, Err(refusal)));
 }
 
 fn assert_not_read(number: u64, bytes: &[u8], refusal: u16) {
-    assert_eq!(read(number, bytes), (Err(refusal), vec![None; 480]));
+    assert_eq!(read(number, bytes), wanted(480, Err(refusal)));
 }
 
 /// The call answers what stood in the bytes and writes this block, all of it.
-fn assert_rescued(number: u64, bytes: &[u8], stood: u16, wanted: Block) {
-    assert_eq!(
-        rescue(number, bytes),
-        (Ok(stood), wanted.map(Some).to_vec())
-    );
+fn assert_rescued(number: u64, bytes: &[u8], stood: u16, kept: Block) {
+    let found = rescue(number, bytes);
+    assert_eq!(found, wanted(512, Ok((stood, kept.to_vec()))));
 }
 
 fn assert_not_rescued(number: u64, bytes: &[u8], refusal: u16) {
-    assert_eq!(rescue(number, bytes), (Err(refusal), vec![None; 512]));
+    assert_eq!(rescue(number, bytes), wanted(512, Err(refusal)));
 }
 
 /// One record, sound or not, is taken, given and kept, or refused by 12 all three ways.
@@ -207,7 +219,7 @@ fn shorter_slices() {
 }
 
 /// A file has 65,536 blocks. The numbers behind them are refused, also those that would be a block's if
-/// they were cut to two bytes or to four.
+/// they were cut to two bytes or to four, and whatever part of a record or of a block is there.
 #[test]
 fn numbers_past_the_last() {
     let list = records(20);
@@ -216,6 +228,16 @@ fn numbers_past_the_last() {
         for past in [1 << 16, 2 << 16, 1 << 32, 1 << 63, u64::MAX - 65535] {
             assert_not_written(number + past, &bytes, 9);
             assert_not_read(number + past, &block(number, &list), 9);
+        }
+    }
+    for number in [65536, u64::MAX] {
+        for length in [1, 23, 24, 479, 480, 481] {
+            assert_not_written(number, &[0; 481][..length], 9);
+            assert_not_written(number, &[255; 481][..length], 9);
+        }
+        for length in [1, 511, 512, 513] {
+            assert_not_read(number, &[0; 513][..length], 9);
+            assert_not_read(number, &[255; 513][..length], 9);
         }
     }
 }
@@ -396,6 +418,7 @@ fn limits_of_what_is_counted() {
         record[place] = index;
         let (orders, indices) = (&record[ORDERS..INDICES], &record[INDICES..BITS]);
         let bits = gillsextant::cost(1, 2, orders, indices).unwrap();
+        assert_eq!(with_bits(record, bits), priced(record));
         assert_sound(&with_bits(record, bits), true);
         assert_sound(&with_bits(record, bits + 1), false);
     }
@@ -421,6 +444,7 @@ fn bits_are_the_cost() {
     for ([weighting, filters, order, first, second, others], cost) in marked {
         let mut record = [others; 24];
         record[..8].copy_from_slice(&[1, 4, filters, weighting, order, 0, first, second]);
+        assert_eq!(with_bits(record, cost), priced(record));
         assert_sound(&with_bits(record, cost), true);
         assert_sound(&with_bits(record, cost + 1), false);
         assert_sound(&with_bits(record, cost.wrapping_sub(1)), false);
@@ -440,7 +464,7 @@ fn costs_of_the_list() {
     let [mut sound, mut refused] = [0; 2];
     let mut block = [0; 512];
     let mut takes = |record: Bytes| match write_block(9, &record, &mut block) {
-        Ok(1) => verdict(9, &block) == Ok(vec![record]),
+        Ok(1) => verdict('r', 9, &block) == Ok((1, record.to_vec())),
         Err(BlockRefusal::Record) => false,
         other => panic!("{other:?}"),
     };
@@ -569,14 +593,15 @@ fn every_count_is_rescued() {
 fn every_number_is_rescued() {
     let list = records(20);
     let (first, last) = (block(0, &list), block(65535, &list));
+    let numbered = file(&list.repeat(65536));
     let mut found = [0; 512];
-    for number in 0..=65535 {
-        let numbered = renumbered(first, number);
+    for (number, numbered) in (0..=65535).zip(numbered.chunks(512)) {
         assert_eq!(rescue_block(number.into(), &last, &mut found), Ok(65535));
         assert_eq!(found, numbered);
-        assert_eq!(rescue_block(0, &numbered, &mut found), Ok(number));
+        assert_eq!(rescue_block(0, numbered, &mut found), Ok(number));
         assert_eq!(found, first);
     }
+    assert_eq!(numbered.len(), 65536 * 512);
 }
 
 /// Fewer than 512 bytes are no block, none among them, whatever the number. More than 512 are one, and
@@ -638,7 +663,7 @@ fn headers_and_fills_that_are_rescued() {
             let mut changed = right;
             changed[place] = value;
             let changed = sealed(changed);
-            let stood = u16::from(changed[0]) + 256 * u16::from(changed[1]);
+            let stood = number_in(&changed);
             if place < 2 {
                 assert_rescued(9, &changed, stood, block(9, &list));
             } else if place == 2 && (8..=20).contains(&value) {
@@ -669,7 +694,7 @@ fn the_first_fault() {
         let has = |place: &usize| set >> place & 1 == 1;
         let faults: Vec<Fault> = (0..FAULTS.len()).filter(has).map(|n| FAULTS[n]).collect();
         let bytes = faulty(&faults);
-        let stood = u16::from(bytes[0]) + 256 * u16::from(bytes[1]);
+        let stood = number_in(&bytes);
         let is_number = |place: usize| (2..=3).contains(&place);
         let others = (0..FAULTS.len()).filter(|place| has(place) && !is_number(*place));
         match others.map(|place| FAULTS[place].0).min() {
@@ -728,42 +753,31 @@ fn random_damage() {
         let length = if below(16) == 0 { below(512) } else { 512 };
         let bytes = &bytes[..length as usize];
         println!("round {round}");
-        match verdict(number, bytes) {
-            Ok(records) => {
-                met[0] += 1;
-                assert_read(number, bytes, &records);
-            }
-            Err(refusal) => {
-                met[refusal as usize - 8] += 1;
-                assert_not_read(number, bytes, refusal);
-            }
-        }
+        let count = |answer: Result<u16, u16>| answer.map_or_else(|why| why as usize - 8, |_| 0);
+        met[count(read(number, bytes).0)] += 1;
         let past = [0, 0, 0, 65536, 1 << 32][below(5) as usize];
         let number = past + NUMBERS[below(6) as usize];
-        match rescue_verdict(number, bytes) {
-            Ok((stood, block)) => {
-                met_by_rescue[0] += 1;
-                assert_rescued(number, bytes, stood, block);
-            }
-            Err(refusal) => {
-                met_by_rescue[refusal as usize - 8] += 1;
-                assert_not_rescued(number, bytes, refusal);
-            }
-        }
+        met_by_rescue[count(rescue(number, bytes).0)] += 1;
     }
     for met in [met, met_by_rescue] {
         assert!(met.iter().all(|count| *count > 200), "{met:?}");
     }
 }
 
-/// The model's own records are what they are meant to be, and many.
+/// The model's own records are what they are meant to be, and many, of every row and number of filters.
 #[test]
 fn the_model_has_many_records() {
     let list = records(1000);
-    assert!(list.iter().all(sound));
-    let different: std::collections::BTreeSet<_> = list.iter().collect();
-    assert!(different.len() > 500, "{}", different.len());
-    assert_eq!(record(2)[..8], [0, 2, 1, 0, 0, 2, 2, 7]);
+    for some in list.chunks(20) {
+        let read = verdict('r', 0, &block(0, some));
+        assert_eq!(read, Ok((20, some.concat())));
+    }
+    let kinds = |length| {
+        let starts = list.iter().map(|record| &record[..length]);
+        starts.collect::<std::collections::BTreeSet<_>>().len()
+    };
+    assert_eq!(kinds(4), 2 * 5 * 3 * 2);
+    assert!(kinds(24) > 500, "{}", kinds(24));
 }
 
 #[test]

@@ -5,6 +5,9 @@
 //! A test sets the thread's word MXCSR for a call alone, and has it back before anything is compared:
 //! Rust takes the default for granted.
 
+mod common;
+
+use common::narrations::{block, priced, Block, Bytes};
 use gillsextant::decoder::temporal_noise_shaping::apply_temporal_noise_shaping;
 use gillsextant::encoder::temporal_noise_shaping::TemporalNoiseShaping;
 use gillsextant::narration::{read_block, rescue_block, write_block, BlockRefusal};
@@ -314,16 +317,13 @@ fn cost_unguarded(word: u32, orders: [u8; 2]) -> [u16; 4] {
     numbers(answer)
 }
 
-/// The record of this row and these orders and indices, and the block 7 that it makes.
-fn narrated() -> ([u8; 24], [u8; 512]) {
-    let bits = cost(0, 1, &ORDERS, &INDICES).expect("the side data are accepted");
+/// The record of this row and these orders and indices, and the blocks 7 and 65535 that it makes.
+fn narrated() -> (Bytes, [Block; 2]) {
     let mut record = [0; 24];
     record[..6].copy_from_slice(&[CODES.0, CODES.1, 1, 0, ORDERS[0], ORDERS[1]]);
     record[6..22].copy_from_slice(&INDICES);
-    record[22..].copy_from_slice(&bits.to_le_bytes());
-    let mut block = [0; 512];
-    assert_eq!(write_block(7, &record, &mut block), Ok(1));
-    (record, block)
+    let record = priced(record);
+    (record, [7, 65535].map(|number| block(number, &[record])))
 }
 
 /// A block's two numbers, as the others' four.
@@ -524,10 +524,8 @@ fn refusals_and_cost_are_the_same_unguarded() {
 /// rescued, what is refused, and the environment afterwards.
 #[test]
 fn blocks_are_the_same() {
-    let (record, wanted) = narrated();
+    let (record, [wanted, elsewhere]) = narrated();
     let cut = &wanted[..511];
-    let mut elsewhere = [0; 512];
-    assert_eq!(write_block(65535, &record, &mut elsewhere), Ok(1));
     for word in environments() {
         let (mut block, mut records) = ([0; 512], [0; 480]);
         let answer = within(word, || write_block(7, &record, &mut block));

@@ -1,4 +1,4 @@
-//! Whole narrations through `Writer` and `Reader`, against the model of C-11 in `common/narrations.rs`:
+//! Whole narrations through `Writer` and `Reader`, against the gate's model of C-11 (`common/narrations.rs`):
 //! what is written and read back, refusals with their block and what stands before them, and readers and
 //! writers that come in pieces or fail.
 #![cfg(feature = "std")]
@@ -397,72 +397,13 @@ fn a_writer_that_is_dropped() {
     assert_eq!(bytes, file(&list[..40]));
 }
 
-/// All blocks of the longest file, and more if asked for, in constant memory. Each holds the same
-/// records, and one past the last the number that two bytes can hold.
-struct Longest {
-    records: Vec<Bytes>,
-    block: Block,
-    next: u64,
-    given: usize,
-    blocks: u64,
-}
-
-impl Longest {
-    fn new(blocks: u64) -> Self {
-        Longest {
-            records: records(20),
-            block: [0; 512],
-            next: 0,
-            given: 512,
-            blocks,
-        }
-    }
-}
-
-impl Read for Longest {
-    fn read(&mut self, buffer: &mut [u8]) -> io::Result<usize> {
-        if self.given == 512 {
-            if self.next == self.blocks {
-                return Ok(0);
-            }
-            self.block = block(self.next % 65536, &self.records);
-            (self.next, self.given) = (self.next + 1, 0);
-        }
-        let length = buffer.len().min(512 - self.given);
-        buffer[..length].copy_from_slice(&self.block[self.given..][..length]);
-        self.given += length;
-        Ok(length)
-    }
-}
-
-/// Takes what is written, compares it with what is read and counts it.
-struct Compared<R> {
-    wanted: R,
-    length: u64,
-}
-
-impl<R: Read> Write for Compared<R> {
-    fn write(&mut self, bytes: &[u8]) -> io::Result<usize> {
-        let mut wanted = vec![0; bytes.len()];
-        self.wanted.read_exact(&mut wanted)?;
-        assert_eq!(bytes, wanted);
-        self.length += bytes.len() as u64;
-        Ok(bytes.len())
-    }
-    fn flush(&mut self) -> io::Result<()> {
-        Ok(())
-    }
-}
-
-/// The 65,536th block is written and the next one refused, be it full or not.
+/// The 65,536th block is written and the next one refused. What else is refused there is tried of one block,
+/// in `blocks.rs`.
 #[test]
 fn the_longest_file_is_written() {
     let list = records(20);
-    let mut compared = Compared {
-        wanted: Longest::new(65536),
-        length: 0,
-    };
-    let mut writer = Writer::new(&mut compared);
+    let mut bytes = Vec::new();
+    let mut writer = Writer::new(&mut bytes);
     for _ in 0..65536 {
         push_to_error(&mut writer, &list).unwrap();
     }
@@ -473,7 +414,7 @@ fn the_longest_file_is_written() {
     assert_eq!(again.map_err(refused), Err((65536, 9)));
     let finished = writer.finish().map(|_| ());
     assert_eq!(finished.map_err(refused), Err((65536, 9)));
-    assert_eq!(compared.length, 65536 * 512);
+    assert!(bytes == file(&list.repeat(65536)));
 }
 
 /// The 65,536th block is read and the next one refused, though its sums and its records are right and it
@@ -481,28 +422,9 @@ fn the_longest_file_is_written() {
 #[test]
 fn the_longest_file_is_read() {
     let list = records(20);
-    let list: Vec<Record> = list.iter().map(Record::from_bytes).collect();
-    let mut reader = Reader::new(Longest::new(65537));
-    for _ in 0..65536 {
-        for wanted in &list {
-            assert_eq!(reader.next().unwrap().unwrap(), *wanted);
-        }
-    }
-    let last = reader.next().unwrap();
-    assert_eq!(last.map_err(refused), Err((65536, 9)));
-    assert!(reader.next().is_none());
-}
-
-/// Without another block the file ends well, and with one more byte it does not.
-#[test]
-fn the_longest_file_ends() {
-    for stray in 0..2 {
-        let bytes = Longest::new(65536).chain(&[0][..stray]);
-        let mut found = 0;
-        let ended = Reader::new(bytes).try_for_each(|record| record.map(|_| found += 1));
-        let wanted = if stray == 0 { Ok(()) } else { Err((65536, 9)) };
-        assert_eq!((found, ended.map_err(refused)), (65536 * 20, wanted));
-    }
+    let (found, ended) = read(&file(&list.repeat(65537))[..]);
+    assert!(found == list.repeat(65536));
+    assert_eq!(ended, Err((65536, 9)));
 }
 
 const PIECES: [usize; 7] = [1, 7, 23, 511, 512, 513, 5000];

@@ -1,14 +1,14 @@
 //! Whole narrations that are damaged, through `rescue` and `rescue_with`: what is kept, what is reported
 //! and in which words, what is refused, and streams that come in pieces, fail or change. What must come out
-//! is written out here or is the answer of the model of C-16 in `common/narrations.rs`. One block at a time
-//! is rescued in `blocks.rs`.
+//! is written out here or is the answer of the gate's model of C-16 (`common/narrations.rs`). One block at a
+//! time is rescued in `blocks.rs`.
 #![cfg(feature = "std")]
 
 mod common;
 
 use common::narrations::{
     block, file, number_in, record, records, records_from, renumbered, rescued, sealed, verdict,
-    Block, Bytes, BITS, ORDERS,
+    Block, BITS, ORDERS,
 };
 use common::streams::Pieces;
 use gillsextant::narration::{rescue, rescue_with, BlockRefusal, Reader, RescueEntry, RescueError};
@@ -40,17 +40,11 @@ fn rescued_of(damaged: &[u8]) -> Rescued {
     assert_eq!((mended.clone(), report.clone()), rescued(damaged).unwrap());
     let again = rescue_both(Cursor::new(&mended)).unwrap();
     assert_eq!(again, (mended.clone(), vec![]));
-    let found: Vec<Bytes> = read(&mended);
+    let found = Reader::new(&mended[..]).flat_map(|record| record.unwrap().to_bytes());
     let wanted = mended.chunks(512).enumerate();
-    let wanted = wanted.flat_map(|(number, bytes)| verdict(number as u64, bytes).unwrap());
-    assert_eq!(found, wanted.collect::<Vec<Bytes>>());
+    let wanted = wanted.flat_map(|(number, block)| verdict('r', number as u64, block).unwrap().1);
+    assert_eq!(found.collect::<Vec<u8>>(), wanted.collect::<Vec<u8>>());
     (mended, report)
-}
-
-/// The records of a narration, which must be sound.
-fn read(bytes: &[u8]) -> Vec<Bytes> {
-    let records = Reader::new(bytes).map(|record| record.unwrap().to_bytes());
-    records.collect()
 }
 
 /// The rescue keeps these blocks, by what stands in them, and has this report.
@@ -313,10 +307,9 @@ fn half_a_block() {
     );
 }
 
-/// 65,536 blocks of three records.
+/// 65,536 blocks.
 fn longest() -> Vec<u8> {
-    let first = block(0, &records(3));
-    (0..=65535).flat_map(|n| renumbered(first, n)).collect()
+    file(&records(20).repeat(65536))
 }
 
 /// Takes nothing at all.
@@ -331,34 +324,17 @@ impl Write for Untouched {
     }
 }
 
-/// Too many blocks to keep: nothing is written or reported.
-fn assert_too_many(damaged: &[u8]) {
-    let unreported = |entry| panic!("{entry}");
-    let answer = rescue_with(Cursor::new(damaged), Untouched, unreported);
-    assert!(matches!(answer, Err(RescueError::TooMany)));
-    let answer = rescue(Cursor::new(damaged), Untouched);
-    assert!(matches!(answer, Err(RescueError::TooMany)));
-}
-
-/// As many blocks as a narration can have are kept, also where there are more that are dropped.
+/// As many blocks as a narration can have are kept, where there are more that are dropped: holes in front, in
+/// the middle and at the end, and some bytes. One more, of whatever number, is too many, and then nothing is
+/// written or reported.
 #[test]
 fn the_most_that_can_be_kept() {
     let sound = longest();
-    let unchanged = rescue_both(Cursor::new(&sound)).unwrap();
-    assert!(unchanged == (sound.clone(), vec![]));
-
-    // A hole in front, one in the middle, one at the end, and some bytes.
     let middle = 30_000 * 512;
     let hole = &[0; 512][..];
-    let parts = [
-        hole,
-        &sound[..middle],
-        hole,
-        &sound[middle..],
-        hole,
-        &[1; 30],
-    ];
-    let (mended, report) = rescue_both(Cursor::new(parts.concat())).unwrap();
+    let parts = [hole, &sound[..middle], hole, &sound[middle..], hole];
+    let damaged = [&parts.concat()[..], &[1; 30]].concat();
+    let (mended, report) = rescue_both(Cursor::new(damaged)).unwrap();
     assert!(mended == sound);
     let wanted = [
         "block 0 dropped 11",
@@ -368,31 +344,13 @@ fn the_most_that_can_be_kept() {
     ];
     assert_eq!(report, wanted);
 
-    // Each has the number 9.
-    let ninth = block(9, &records(3));
-    let damaged = ninth.repeat(65536);
-    let (mended, report) = rescue_both(Cursor::new(damaged)).unwrap();
-    assert!(mended == sound);
-    let wanted = (0..65536)
-        .filter(|n| *n != 9)
-        .map(|n| format!("block {n} renumbered 9 to {n}"));
-    assert!(report == wanted.collect::<Vec<String>>());
-}
-
-/// One more is too many, wherever it is and whatever number it has, be other blocks dropped or not.
-#[test]
-fn one_more_than_can_be_kept() {
-    let sound = longest();
     let last = block(65535, &records(20));
-    assert_too_many(&[&sound[..], &last].concat());
-    assert_too_many(&[&last[..], &sound].concat());
-    let hole = [0; 512];
-    assert_too_many(&[&hole, &sound[..], &hole, &last, &hole, &[1; 30]].concat());
-    // Without it, or with a fault in it, there are not too many.
-    let bad = order_nine(last);
-    let (mended, report) = rescue_both(Cursor::new([&sound[..], &bad].concat())).unwrap();
-    assert!(mended == sound);
-    assert_eq!(report, ["block 65536 dropped 12"]);
+    let damaged = [&parts.concat()[..], &last, &[1; 30]].concat();
+    let unreported = |entry| panic!("{entry}");
+    let answer = rescue_with(Cursor::new(&damaged), Untouched, unreported);
+    assert!(matches!(answer, Err(RescueError::TooMany)));
+    let answer = rescue(Cursor::new(&damaged), Untouched);
+    assert!(matches!(answer, Err(RescueError::TooMany)));
 }
 
 /// A damaged file with an entry of every kind, and what must come of it.

@@ -1,6 +1,6 @@
 //! What the test files share: the lists of `crates/prog_replay/data` (their form stands in
-//! `oracle/README.md`), read record by record, ways to compare lines, frames to restart, a model of
-//! narration files, and streams that come in pieces or fail.
+//! `oracle/README.md`), read record by record, ways to compare lines, frames to restart, the gate's model
+//! of narration files, and streams that come in pieces or fail.
 #![allow(dead_code)] // each test file uses a part of it
 
 pub mod frames;

@@ -1,0 +1,97 @@
+# What tests/launcher, tests/narrations and tests/rescue share: the programs to try, a folder to try them in,
+# how a command is run, how what it left is compared, and the count of cases. To be sourced: it goes to a new
+# folder, which is removed at the end, and $0 says whose cases they are.
+#
+# $root is the repository, $tns the launcher and $programs the folder of the programs; the variable
+# TNS_PROGRAMS can name that of others. The file `nothing` is empty. Assumes GNU's tools on Linux and, for
+# `builds`, a C compiler (CC names another than cc).
+set -eu
+LC_ALL=C
+export LC_ALL
+CDPATH='' cd -- "$(dirname -- "$0")/.."
+suite=${0##*/} root=$PWD tns=$PWD/tns programs=${TNS_PROGRAMS-$PWD/target/bin}
+case $programs in /*) ;; *) programs=$root/$programs ;; esac
+there=$(mktemp -d)
+trap 'rm -rf "$there"' EXIT
+trap 'exit 1' INT TERM # the folder is removed then too
+if [ -n "${TNS_PROGRAMS+set}" ]; then
+    mkdir -p "$there/tree/target"
+    ln -s "$programs" "$there/tree/target/bin"
+    cp "$tns" "$there/tree/tns"
+    tns=$there/tree/tns
+fi
+cd "$there"
+: >nothing
+passed=0 failed=0
+
+needs() { # PROGRAM..: they must have been built
+    for program; do
+        [ -x "$programs/$program" ] || {
+            echo "$suite: $programs/$program is missing; \`rt check $program\` makes it" >&2
+            exit 1
+        }
+    done
+}
+
+builds() { # NAME..: of tests/NAME.c
+    for name; do ${CC:-cc} -std=c99 -O2 -Wall -Wextra -Werror -o "$name" "$root/tests/$name.c"; done
+}
+
+# Runs a command with its output and its errors in the files `out` and `err`, and its status in $status.
+run() { # COMMAND..
+    status=0
+    "$@" >out 2>err || status=$?
+}
+
+# The status of a command whose output goes into a pipe goes by the file `ended`.
+piped() { # COMMAND..
+    "$@" && echo 0 >ended || echo $? >ended
+}
+
+# A case that differs, and why; and one that is judged by whether $why is empty.
+off() { # NAME WHY
+    failed=$((failed + 1))
+    echo "$suite: $1: $2"
+}
+count() { # NAME
+    if [ -z "$why" ]; then passed=$((passed + 1)); else off "$1" "$why"; fi
+}
+
+# What differs is added to $why: two files, and what the last case left.
+same() { # WANTED FOUND
+    cmp -s "$1" "$2" || why="$why
+$(cmp "$1" "$2" 2>&1 | head -n 1)
+$(diff "$1" "$2" 2>&1 | head -n 5)"
+}
+compare() { # STATUS OUT ERR
+    why=
+    [ "$status" = "$1" ] || why="status $status, not $1"
+    same "$2" out
+    same "$3" err
+}
+
+# What the case left is compared: its status, and its output and errors with these files.
+expect() { # NAME STATUS OUT ERR
+    compare "$2" "$3" "$4"
+    count "$1"
+}
+
+# Nobody reads what is written, which is more than a pipe holds: a signal ends the program, silently, or
+# where the signal is ignored the write fails.
+unread() { # WORD INPUT
+    : >out
+    piped "$tns" "$1" <"$2" 2>err | :
+    read -r status <ended
+    echo 'tns: standard output: Broken pipe' >broken
+    if [ "$status" = 2 ]; then
+        expect "$1 to a pipe that nobody reads, the signal ignored" 2 nothing broken
+    else
+        expect "$1 to a pipe that nobody reads" 141 nothing nothing
+    fi
+}
+
+# Last, how many cases passed and how many failed.
+tally() {
+    echo "$suite: $passed passed, $failed failed"
+    [ "$failed" -eq 0 ]
+}
