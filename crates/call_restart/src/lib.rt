@@ -1,12 +1,14 @@
 // The doors of save and restart: the decoder from a lent spectrum into a lent output, split at a line.
 // `save` runs the filters as far as they lie below line n, keeps their states, and runs the rest.
 // `restart` runs that rest alone, from any states. Each door makes its checks itself, as `decode` does:
-// that is quicker than a call that hands a row back (docs/DECISIONS.md).
+// that is quicker than a call that hands a row back (docs/DECISIONS.md). `Refusal` is named because the kit
+// asks for the crate of every type that a function meets, and the checks answer with one.
 use check_frame::FrameAnswer;
 use check_frame::check_frame;
 use check_line::LineCheck;
 use check_line::LineRefusal;
 use check_line::check_line;
+use check_refusals::Refusal;
 use check_side::SideAnswer;
 use check_side::check_side;
 use side_split::row_restarted;
