@@ -17,6 +17,7 @@ ghost use Rattle.row_durations.specs.Durations.{durationOf};
 ghost use Rattle.row_bands.specs.Bands.{rowOf};
 ghost use Rattle.row_bands.proofs.Bands.{SoundRow};
 ghost use Rattle.side_data.specs.Side.{noFilter};
+ghost use Rattle.shape_lags.specs.LongBands.{LongRow};
 ghost use Rattle.shape_frame.specs.FrameSide.{sideOf};
 ghost use Rattle.call_encode.specs.Encoder.{encodeVerdict, Encodes, refusedWith, RowEncodes};
 
@@ -78,6 +79,7 @@ fn refused(why: Refusal) -> Encoded
 // A sound frame: the bits and the side data of its filters, and its bands filtered.
 fn row_encoded(row: Row, flag: bool, weighting: u8, lines: &mut [f32]) -> Encoded
     requires { ⌜ SoundRow row (length (now lines)) ⌝ }
+    requires { ⌜ LongRow row (length (now lines)) ⌝ }
     ensures { λ r. ⌜ RowEncodes (sideOf row (now (lines .entry)) flag weighting) row (now (lines .entry)) (now (lines .exit)) r ⌝ }
 {
     let found = analyse_frame(lines, row, flag, weighting);

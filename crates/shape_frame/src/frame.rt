@@ -9,6 +9,8 @@ use side_quantized::Quantized;
 use side_quantized::none;
 use side_quantized::quantize_all;
 ghost use mathlib.Core.Path.{_≡_};
+ghost use lib.ListN.{length};
+ghost use Rattle.shape_lags.specs.LongBands.{Long, LongRow};
 ghost use Rattle.side_data.specs.Side.{bitsOf};
 ghost use Rattle.side_data.specs.Limits.{Reported};
 ghost use Rattle.shape_frame.specs.FrameSide.{countOf, filterOf, secondOf, sideOf, frameFound};
@@ -21,6 +23,7 @@ pub struct Found {
 
 // The filter of a band.
 fn filter_of(lines: &[f32], band: Band, flag: bool, weighting: u8) -> Quantized
+    requires { ⌜ Long band (length (now lines)) ⌝ }
     ensures { λ r. ⌜ r ≡ filterOf band (now (lines .entry)) flag weighting ⌝ }
 {
     let found = analyse(lines, band, flag, weighting);
@@ -33,6 +36,7 @@ fn filter_of(lines: &[f32], band: Band, flag: bool, weighting: u8) -> Quantized
 
 // The filter of the second band, or of none.
 fn second_of(lines: &[f32], row: Row, flag: bool, weighting: u8) -> Quantized
+    requires { ⌜ LongRow row (length (now lines)) ⌝ }
     ensures { λ r. ⌜ r ≡ secondOf row (now (lines .entry)) flag weighting ⌝ }
 {
     if row.second.stop == 0 {
@@ -49,6 +53,7 @@ fn count_of(row: Row) -> u8
 
 // The side data of a frame: a filter for each band of its row.
 fn side_of(lines: &[f32], row: Row, flag: bool, weighting: u8) -> SideData
+    requires { ⌜ LongRow row (length (now lines)) ⌝ }
     ensures { λ r. ⌜ r ≡ sideOf row (now (lines .entry)) flag weighting ⌝ }
 {
     let first = filter_of(lines, row.first, flag, weighting);
@@ -78,8 +83,10 @@ fn side_bits(side: SideData) -> u16
     bits + filter_bits(side.weighting, second.order, &j)
 }
 
-// The side data of a frame, and their bits. `flag` is the near-Nyquist flag.
+// The side data of a frame, and their bits. The `requires` is what the encode call has checked: the row
+// is one of the table's, and its lines are there. `flag` is the near-Nyquist flag.
 pub fn analyse_frame(lines: &[f32], row: Row, flag: bool, weighting: u8) -> Found
+    requires { ⌜ LongRow row (length (now lines)) ⌝ }
     ensures { λ r. ⌜ r ≡ frameFound row (now (lines .entry)) flag weighting ⌝ }
 {
     let side = side_of(lines, row, flag, weighting);

@@ -13,6 +13,8 @@ use shape_recursion::predict;
 use shape_reflections::damped_row;
 use shape_reflections::reflected_row;
 ghost use mathlib.Core.Path.{_≡_};
+ghost use lib.ListN.{length};
+ghost use Rattle.shape_lags.specs.LongBands.{Long};
 ghost use Rattle.shape_frame.specs.Analysis.{analysedOf};
 
 // What the analysis gives: the record, and eight reflection coefficients.
@@ -21,8 +23,10 @@ pub struct Analysed {
     pub reflections: [f32; 8],
 }
 
-// The analysis of any band. `flag` is the near-Nyquist flag.
+// The analysis of a band, whose subbands have the lines that the lags require: those of a checked frame
+// do. `flag` is the near-Nyquist flag.
 pub fn analyse(lines: &[f32], band: Band, flag: bool, weighting: u8) -> Analysed
+    requires { ⌜ Long band (length (now lines)) ⌝ }
     ensures { λ r. ⌜ r ≡ analysedOf band (now (lines .entry)) flag weighting ⌝ }
 {
     let r = autocorrelated(lines, band);

@@ -1,4 +1,5 @@
 -- The laws that belong to no one function.
 pub mod Adding
 pub mod Lags
+pub mod LongRows
 pub mod Determined

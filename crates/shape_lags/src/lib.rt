@@ -2,12 +2,13 @@
 // one pass: each is added up in line order, as the definition has it, and lag 0 is the energy.
 use row_bands::Band;
 ghost use mathlib.Core.Path.{_≡_};
-ghost use Prim.Native.Nat.{_+_, _-_, _<_, _≤_, min};
+ghost use Prim.Native.Nat.{_+_, _-_, _<_, _≤_};
 ghost use lib.ListN.{length};
 ghost use lib.Ieee.{eq};
-ghost use Rattle.law_lists.specs.Places.{at, tab, part};
+ghost use Rattle.law_lists.specs.Places.{at, tab};
 ghost use Rattle.law_rounding.specs.Floats.{_⊗_, _⊘_, f0};
-ghost use Rattle.shape_lags.specs.Autocorrelation.{lagSum, whereSilent, normalizedLag, autocorrelation};
+ghost use Rattle.shape_lags.specs.Autocorrelation.{lagSum, whereSilent, autocorrelation};
+ghost use Rattle.shape_lags.specs.LongBands.{Long};
 ghost use Rattle.shape_lags.specs.PartialSums.{addedCell, sumsTo, plainCell, lagCell};
 
 const LAG_WINDOW: [f32; 9] = [
@@ -61,46 +62,6 @@ fn lag_sums(lines: &[f32]) -> [f32; 9]
     sums
 }
 
-// One lag's sum of a subband, product by product.
-fn lag_sum(lines: &[f32], k: usize) -> f32
-    requires { ⌜ k < 9 ⌝ }
-    ensures { λ r. ⌜ r ≡ lagSum (now (lines .entry)) k ⌝ }
-{
-    let mut sum = 0.0;
-    let mut n = 0usize;
-    while n + k < lines.len() {
-        sum = sum + lines[n] * lines[n + k];
-        n += 1;
-    }
-    sum
-}
-
-// The nine sums of a subband of any length, one after the other.
-fn short_sums(lines: &[f32]) -> [f32; 9]
-    ensures { λ r. ⌜ r ≡ tab (lagSum (now (lines .entry))) 9 ⌝ }
-{
-    let mut sums = [0.0; 9];
-    for k in 0..9usize {
-        sums[k] = lag_sum(lines, k);
-    }
-    sums
-}
-
-fn least(a: usize, b: usize) -> usize
-    ensures { λ r. ⌜ r ≡ min a b ⌝ }
-{
-    if a < b { a } else { b }
-}
-
-// The lines from a start to a stop, as far as there are any.
-fn part_of(lines: &[f32], start: usize, stop: usize) -> &[f32]
-    ensures { λ r. ⌜ now r ≡ part start stop (now (lines .entry)) ⌝ }
-{
-    let end = least(stop, lines.len());
-    let begin = least(start, end);
-    &lines[begin..end]
-}
-
 // What a subband adds to a lag: ac/es.
 fn quotient(sums: [f32; 9], k: usize) -> f32
     requires { ⌜ k < 9 ⌝ }
@@ -144,36 +105,19 @@ fn lags_of(a: [f32; 9], b: [f32; 9], c: [f32; 9]) -> [f32; 9]
     normalized(silent, a, b, c)
 }
 
-// The lags of three subbands that have eight lines or more, as those of every row do.
-fn long_lags(lowest: &[f32], middle: &[f32], highest: &[f32]) -> [f32; 9]
-    requires { ⌜ (8 ≤ length (now lowest)) × (8 ≤ length (now middle)) × (8 ≤ length (now highest)) ⌝ }
-    ensures { λ r. ⌜ r ≡ tab (normalizedLag (now (lowest .entry)) (now (middle .entry)) (now (highest .entry))) 9 ⌝ }
-{
-    let a = lag_sums(lowest);
-    let b = lag_sums(middle);
-    let c = lag_sums(highest);
-    lags_of(a, b, c)
-}
-
-// The same of any three.
-fn short_lags(lowest: &[f32], middle: &[f32], highest: &[f32]) -> [f32; 9]
-    ensures { λ r. ⌜ r ≡ tab (normalizedLag (now (lowest .entry)) (now (middle .entry)) (now (highest .entry))) 9 ⌝ }
-{
-    let a = short_sums(lowest);
-    let b = short_sums(middle);
-    let c = short_sums(highest);
-    lags_of(a, b, c)
-}
-
-// The nine lags of a band, for any band: a subband has the lines that lie between its cuts.
+// The nine lags of a band. Its three subbands have eight lines or more, all of them there: that is what
+// it requires, the bands of every row keep it, and the encode call has checked that the row's lines are
+// there.
 pub fn autocorrelated(lines: &[f32], band: Band) -> [f32; 9]
+    requires { ⌜ Long band (length (now lines)) ⌝ }
     ensures { λ r. ⌜ r ≡ autocorrelation band (now (lines .entry)) ⌝ }
 {
-    let lowest = part_of(lines, band.start, band.first_cut);
-    let middle = part_of(lines, band.first_cut, band.second_cut);
-    let highest = part_of(lines, band.second_cut, band.stop);
-    if least(least(lowest.len(), middle.len()), highest.len()) < 8 {
-        return short_lags(lowest, middle, highest);
-    }
-    long_lags(lowest, middle, highest)
+    let start = band.start;
+    let first_cut = band.first_cut;
+    let second_cut = band.second_cut;
+    let stop = band.stop;
+    let a = lag_sums(&lines[start..first_cut]);
+    let b = lag_sums(&lines[first_cut..second_cut]);
+    let c = lag_sums(&lines[second_cut..stop]);
+    lags_of(a, b, c)
 }

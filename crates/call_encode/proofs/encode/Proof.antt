@@ -10,7 +10,9 @@ use Rattle.row_durations.specs.declared.Duration.{Duration}
 use Rattle.row_bands.specs.declared.Row.{Row}
 use Rattle.row_bands.proofs.Bands.{SoundRow}
 use Rattle.check_frame.specs.Frames.{frameOf, frameSays}
-use Rattle.check_frame.proofs.Frames.{sound-row}
+use Rattle.check_frame.proofs.Frames.{sound-frame, sound-row}
+use Rattle.shape_lags.specs.LongBands.{LongRow}
+use Rattle.shape_lags.proofs.LongRows.{row-long}
 use Rattle.call_encode.specs.Encoder.{weightingIn, encodeSays}
 use Rattle.call_encode.specs.declared.Encoded.{Encoded}
 use Rattle.call_encode.proofs.EncodeVerdict.{frame-refused, frame-passed, encodes-refused, encodes-accepted}
@@ -29,7 +31,12 @@ row-encoded-requires : tie.Need-row-encoded-requires
 row-encoded-requires c κs =
     let frame = c .before .before .before .before in
     let g = frame .before .before .before .before .args in
-    sound-row (g .duration) (g .bandwidth) (length (g .lines .now)) (frame .frame2 .given .0 .0) (sym (passed frame))
+    let lines = length (g .lines .now) in
+    let row = frame .frame2 .given .0 .0 in
+    let sound = sound-frame (g .duration) (g .bandwidth) lines row (sym (passed frame)) in (
+      sound-row (g .duration) (g .bandwidth) lines row (sym (passed frame)),
+      subst (λ (r : Row). LongRow r lines) (sym (sound .its-row)) (row-long (durationOf (g .duration)) (g .bandwidth) lines (sound .narrow) (sound .enough)),
+    )
 
 returns : tie.Need-returns
 returns c =

@@ -15,7 +15,7 @@ two-encoded-requires c κs =
     let found = c .before .before in
     let start = found .before .before .before in
     let g = start .args in
-    (start .pre, subst Reported (sym (ap (λ (f : Found). f .side) (found .analyse-frame .ensures))) (side-reported (g .row) (g .lines .now) (g .flag) (g .weighting)))
+    (start .pre .0, subst Reported (sym (ap (λ (f : Found). f .side) (found .analyse-frame .ensures))) (side-reported (g .row) (g .lines .now) (g .flag) (g .weighting)))
 
 returns : tie.Need-returns
 returns c =

@@ -26,10 +26,13 @@ returns c =
     let g = c .before .before .before .before .args in
     c .none .ensures ∙ no-second (g .row) (g .lines .now) (g .flag) (g .weighting) (c .before .if1 .taken)
 
+filter-of-requires : tie.Need-filter-of-requires
+filter-of-requires c κs = c .before .before .before .pre .second (c .if1 .left)
+
 returns-2 : tie.Need-returns-2
 returns-2 c =
     let g = c .before .before .before .before .args in
     c .filter-of .ensures ∙ has-second (g .row) (g .lines .now) (g .flag) (g .weighting) (c .before .if1 .left)
 
 pub second-of-spec : {M : Type 1} → statement M
-second-of-spec = tie.close (tie.spec (λ c κs. search needs) returns (λ c κs. search needs) returns-2)
+second-of-spec = tie.close (tie.spec (λ c κs. search needs) returns filter-of-requires returns-2)
