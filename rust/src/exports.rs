@@ -1,5 +1,6 @@
 //! The library's eight functions as C sees them. The contracts of these functions are proved; that the
-//! shapes here are theirs is for a reader to see in `crates/tns/src/`.
+//! shapes here are theirs is for a reader to see in `crates/tns/src/`, and of the answers in
+//! `crates/answer_call/src/` and `crates/answer_block/src/`.
 
 /// What a call answers: refusal 0 says that it is accepted.
 #[derive(Clone, Copy)]

@@ -1,5 +1,4 @@
-// How a call on a block writes to its caller's buffer: the call that reads a block, and the one that writes
-// it.
+// How a call on a block writes to its caller's buffer: the one that reads, and the one that writes.
 ghost use mathlib.Core.Path.{_≡_};
 ghost use Prim.Native.Nat.{_≤_};
 ghost use lib.ListN.{length};

@@ -3,8 +3,8 @@
 --
 -- For s = sin θ the number sin 17θ is a polynomial in s of degree 17. Its 17 roots are the sines sin ((i - 8) π / 17), i from 0 to 16. Between the
 -- half-way points below and above each coefficient it changes its sign. These 17 intervals do not meet and stand in the order of the table, so each
--- holds the one root of its place, and no f32 is nearer to that root. The polynomial of the thresholds, which `index_choice` holds against it, is
--- made in the same way. All of it is about whole numbers.
+-- holds the one root of its place, and no f32 is nearer to that root. Beside it stands the polynomial of the thresholds, cos 17θ / cos θ, which
+-- `index_choice` takes. All of it is about whole numbers.
 use mathlib.Core.Path.{_≡_, refl}
 use mathlib.Core.Bool.{Bool, true, false, cond}
 use mathlib.Core.List.{map}
