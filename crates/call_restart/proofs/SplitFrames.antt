@@ -27,7 +27,7 @@ module _ (f : CodedFrame) (n : ℕ) where
 
   module _ (found : Lent) where
     pub refused-save : {why : LineRefusal} → refused (lineSays why) ≡ checksAtLine f n (length (found .output)) → SavesFrame found found (Refused why)
-    refused-save e = record { answer = e; output = left-alone e _ (found .output); states = left-alone e _ (found .states) }
+    refused-save {why} e = record { answer = e; output = left-alone e _ (found .output); states = left-alone e _ (found .states) }
 
     pub saved : {row : Row} → PassedLine f row n (length (found .output)) → {output states : List Float}
         → SavedRow n row (f .filters) (f .orders) (f .indices) (f .spectrum) output states → SavesFrame found (lentAtLine output states) Decoded
@@ -42,7 +42,7 @@ module _ (f : CodedFrame) (n : ℕ) where
 
   module _ (states found : List Float) where
     pub refused-restart : {why : LineRefusal} → refused (lineSays why) ≡ checksAtLine f n (length found) → RestartsFrame states found found (Refused why)
-    refused-restart e = record { answer = e; output = left-alone e _ found }
+    refused-restart {why} e = record { answer = e; output = left-alone e _ found }
 
     pub restarted : {row : Row} → PassedLine f row n (length found) → {left : List Float}
         → left ≡ take n found ++ linesFrom n row (f .filters) (f .orders) (f .indices) states (f .spectrum) → RestartsFrame states found left Decoded
