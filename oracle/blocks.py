@@ -1,12 +1,13 @@
-"""A model of block files, to be read beside document 02, C-11 and C-16: records, sums,
-blocks and files, and what is kept of damaged ones, one function for each rule. It is
-written from the documents and shares nothing with the port, nor with the one other
-model, the gate's (tests/narration.c). The cost of a record is document 01's (model.py).
+"""A model of block files, to be read beside document 02: C-11, which writes and reads them,
+and C-16, which rescues them. There is a function for each rule, in the order of their
+sentences, which stand above it. It is written from the documents and shares nothing with
+the port, nor with the gate's model of block files. What a record costs is document 01's,
+from model.py.
 
-Where a block is refused, the model also says which of the refusal's reasons is met
-first, so that a comparison can count them.
-
-Assumes Python 3 with its standard library.
+A rule that bytes can break has a function that says what is wrong of them, or nothing. So
+each refusal comes with its reason, the first that is met in the document's words. "Open"
+marks what the documents leave open and is decided here. Assumes Python 3 with its standard
+library, and block numbers that are not negative.
 """
 
 import functools
@@ -14,76 +15,144 @@ from operator import mul
 
 import model
 
-RECORD = 24
-CAPACITY = 20
+# C-11. "A block has 512 bytes, every u16 little end first:"
+
 BLOCK = 512
-SUMMED = 508
-FIRST = 8
-MOST_BLOCKS = 65536
-MODULUS = 65521
-EDITION = 1
-
-# A record's numbers of one byte, in the order of their places, each with the most
-# that it may be.
-FIELDS = [("duration", 1), ("bandwidth", 4), ("filters", 2), ("weighting", 1)]
-FIELDS += [(f"order {k}", 8) for k in range(2)] + [(f"index {k}", 16) for k in range(16)]
 
 
-def u16(bytes_):
-    return int.from_bytes(bytes_, "little")
+def u16(two_bytes):
+    low, high = two_bytes
+    return low + 256 * high
 
 
 def bytes_of(number):
-    return number.to_bytes(2, "little")
+    return bytes([number % 256, number // 256])
+
+
+# "number (u16), record count 1 to 20 and edition 1 (one byte each), four zeros;"
+
+CAPACITY = 20
+EDITION = 1
+
+
+def number_of(block):
+    return u16(block[:2])
+
+
+def header_wrong(block):
+    """Apart from the number."""
+    if not 1 <= block[2] <= CAPACITY:
+        return "count"
+    if block[3] != EDITION:
+        return "edition"
+    return "zeros" if any(block[4:8]) else ""
+
+
+# "from byte 8 records of 24 bytes; then zeros;" where the count is right
+
+FIRST = 8
+RECORD = 24
+SUMMED = 508
+
+
+def records_of(block):
+    return block[FIRST : FIRST + RECORD * block[2]]
+
+
+def fill_wrong(block):
+    return "fill" if any(block[FIRST + RECORD * block[2] : SUMMED]) else ""
+
+
+# "the last four bytes are two u16 sums modulo 65521 over bytes 0 to 507, the plain sum and
+# the sum of (508 - place) times byte."
+
+MODULUS = 65521
+WEIGHTS = [508 - place for place in range(SUMMED)]
+
+
+def sums(block):
+    summed = block[:SUMMED]
+    return sum(summed) % MODULUS, sum(map(mul, WEIGHTS, summed)) % MODULUS
+
+
+def sums_wrong(block):
+    plain, weighted = sums(block)
+    wrong = ["plain"] if u16(block[508:510]) != plain else []
+    wrong += ["weighted"] if u16(block[510:512]) != weighted else []
+    return " and ".join(wrong)
+
+
+def with_sums(block):
+    plain, weighted = sums(block)
+    return bytes(block[:SUMMED]) + bytes_of(plain) + bytes_of(weighted)
+
+
+def sealed(number, records):
+    """The whole block of these records, 1 to 20."""
+    start = bytes_of(number) + bytes([len(records) // RECORD, EDITION, 0, 0, 0, 0]) + records
+    return with_sums(start + bytes(SUMMED - len(start)))
+
+
+# "A record holds duration, bandwidth, filter count, weighting, two orders, sixteen indices,
+# and the bit cost as u16." The names are C-12's; the limits are those of document 01's
+# refusals 1, 2, 5, 8, 6 and 7, the last two "used or not".
+
+FIELDS = [("duration", 1), ("bandwidth", 4), ("filters", 2), ("weighting", 1)]
+FIELDS += [(f"order {k}", 8) for k in range(2)] + [(f"index {k}", 16) for k in range(16)]
+
+# "Blocks are numbered from 0, at most 65,536."
+
+MOST_BLOCKS = 65536
+
+
+def parts(bytes_, size):
+    """The last one may be shorter."""
+    return [bytes_[at : at + size] for at in range(0, len(bytes_), size)]
 
 
 class Format:
-    """The rules, with the costs of T from the folder of the original sources."""
+    """What reads, writes or rescues a block is lent bytes, of which it takes no more than a
+    block's. It gives the refusal, or 0, its reason, and what it makes."""
 
     def __init__(self, source):
         self.tables = model.Tables(source)
-        # Most records come again and again.
-        self.fault_of = functools.lru_cache(1 << 17)(self.fault_of)
-
-    # Records
+        # The same records come again and again.
+        self.record_wrong = functools.lru_cache(1 << 14)(self.record_wrong)
 
     def cost(self, record):
-        """The bits that a record's numbers cost; the numbers are in their limits."""
-        _, _, filters, weighting, *rest = record[:22]
-        return model.cost_of(self.tables, weighting, filters, rest[:2], rest[2:])
+        filters, weighting, order_0, order_1, *indices = record[2:22]
+        return model.cost_of(self.tables, weighting, filters, (order_0, order_1), indices)
 
-    def fault_of(self, record):
-        """What is wrong with a record, or None."""
-        if len(record) < RECORD:
-            return "cut short"
-        for number, (name, most) in zip(record, FIELDS):
-            if number > most:
-                return name
-        return None if u16(record[22:]) == self.cost(record) else "bits"
+    # "The writer puts 20 records in every block but the last; the reader takes any sound
+    # count. A file of no bytes reads as no records."
 
-    def fault_among(self, records):
-        return next(filter(None, map(self.fault_of, parts(records, RECORD))), None)
+    def write_file(self, records):
+        return self.until_refused(self.write_block, parts(records, CAPACITY * RECORD))
 
-    # Blocks: each gives a refusal, its reason, and records or a block; 0 and None where
-    # nothing is refused.
+    def read_file(self, file):
+        return self.until_refused(self.read_block, parts(file, BLOCK))
 
-    def write_block(self, number, records):
-        """The block of the first records of a list of bytes."""
-        records = records[: CAPACITY * RECORD]
-        if not records:
-            return 0, None, b""
-        if number >= MOST_BLOCKS:
-            return 9, "number", b""
-        fault = self.fault_among(records)
-        if fault:
-            return 12, fault, b""
-        return 0, None, sealed(number, records)
+    # "A refusal keeps the records of earlier blocks and gives none of its own block."
 
-    def read_block(self, number, block):
-        """The records of the block at the start of some bytes."""
-        block = block[:BLOCK]
+    @staticmethod
+    def until_refused(one, lent):
+        """What stands, and the refusal with its block's number, or None."""
+        stands = b""
+        for number, part in enumerate(lent):
+            refusal, _, made = one(number, part)
+            if refusal:
+                return stands, (refusal, number)
+            stands += made
+        return stands, None
+
+    # "Refusals: 9 short last block or too many blocks; [..] in this order, block by block,
+    # and the first faulty block stands." Open: a block that is both is short; no bytes are
+    # no block, whatever its number, so a file may end after 65,536.
+
+    def read_block(self, number, lent):
+        block = lent[:BLOCK]
         if not block:
-            return 0, None, b""
+            return 0, "", b""
         if len(block) < BLOCK:
             return 9, "short", b""
         if number >= MOST_BLOCKS:
@@ -91,137 +160,94 @@ class Format:
         refusal, reason = self.fault_in(block, number)
         return refusal, reason, b"" if refusal else records_of(block)
 
-    def fault_in(self, block, number=None):
-        """The first fault of a whole block, with its reason. Where no number is asked for,
-        any will do: that is what rescue looks for."""
-        fault = sums_fault(block)
-        if fault:
-            return 10, fault
-        fault = layout_fault(block, number)
-        if fault:
-            return 11, fault
-        fault = self.fault_among(records_of(block))
-        return (12, fault) if fault else (0, None)
+    # "10 sums wrong; 11 header, number or fill wrong; 12 a record breaks 01's numeric limits
+    # or its bits aren't its cost; in this order"
 
-    def rescue_block(self, number, block):
-        """The block at the start of some bytes as the kept one of this number, and the number
-        that it had."""
-        block = block[:BLOCK]
-        if len(block) < BLOCK:
-            return 9, "short", b"", 0
-        refusal, reason = self.fault_in(block)
+    def fault_in(self, block, number=None):
+        """Of 512 bytes. Without a number, they may have any (C-16)."""
+        if wrong := sums_wrong(block):
+            return 10, wrong
+        if wrong := header_wrong(block):
+            return 11, wrong
+        if number is not None and number != number_of(block):
+            return 11, "number"
+        if wrong := fill_wrong(block):
+            return 11, wrong
+        return self.records_fault(records_of(block))
+
+    def records_fault(self, records):
+        wrong = next(filter(None, map(self.record_wrong, parts(records, RECORD))), "")
+        return (12, wrong) if wrong else (0, "")
+
+    # Open: what is to be written may end within a record, which then lacks numbers. Reasons
+    # are looked for in the order of the fields.
+
+    def record_wrong(self, record):
+        if len(record) < RECORD:
+            return "cut short"
+        for (name, most), found in zip(FIELDS, record):
+            if found > most:
+                return name
+        return "bits" if u16(record[22:]) != self.cost(record) else ""
+
+    # "The writer writes nothing of a refused block." Open: no records make no block, whatever
+    # its number.
+
+    def write_block(self, number, lent):
+        records = lent[: CAPACITY * RECORD]
+        if not records:
+            return 0, "", b""
+        if number >= MOST_BLOCKS:
+            return 9, "number", b""
+        refusal, reason = self.records_fault(records)
+        return refusal, reason, b"" if refusal else sealed(number, records)
+
+    # C-16. "The tool keeps a block exactly if its sums, header apart from its number, fill
+    # and records are right. Kept blocks [..] are renumbered from 0 and get fresh sums; their
+    # records stay byte for byte." Open: a number that is too high refuses a block that is to
+    # be kept, and no other; no bytes are a block that is short.
+
+    def rescue_block(self, number, lent):
+        """Gives the old number too, or 0."""
+        block = lent[:BLOCK]
+        refusal, reason = self.fault_in(block) if len(block) == BLOCK else (9, "short")
+        if not refusal and number >= MOST_BLOCKS:
+            refusal, reason = 9, "number"
         if refusal:
             return refusal, reason, b"", 0
-        if number >= MOST_BLOCKS:
-            return 9, "number", b"", 0
-        return 0, None, renumbered(block, number), number_of(block)
+        return 0, "", with_sums(bytes_of(number) + block[2:]), number_of(block)
 
-    # Files: what stands, and the first refusal with its block.
-
-    def write_file(self, records):
-        return self.whole(self.write_block, parts(records, CAPACITY * RECORD))
-
-    def read_file(self, file):
-        return self.whole(self.read_block, parts(file, BLOCK))
-
-    def whole(self, one, pieces):
-        stands = []
-        for number, piece in enumerate(pieces):
-            refusal, _, made = one(number, piece)
-            if refusal:
-                return b"".join(stands), (refusal, number)
-            stands.append(made)
-        return b"".join(stands), None
+    # "Kept blocks stand in their old order [..] It reports each dropped block by place and
+    # first fault, each renumbered block by old and new number, and the number of stray bytes
+    # at the end. [..] more than 65,536 blocks to keep still refuses the call with 9": then
+    # there is no result. Open: entries have the order of the file, and each block its place.
 
     def rescue_file(self, file):
-        """What is kept of a damaged file, and the report's entries; None where there is more
-        to keep than may be."""
-        whole = len(file) // BLOCK
-        faults = [self.fault_in(block)[0] for block in parts(file[: BLOCK * whole], BLOCK)]
-        if faults.count(0) > MOST_BLOCKS:
-            return None
         kept, report = [], []
-        for place, fault in enumerate(faults):
-            block = file[BLOCK * place : BLOCK * (place + 1)]
-            if fault:
-                report.append(("dropped", place, fault))
-                continue
-            old, new = number_of(block), len(kept)
-            if old != new:
-                report.append(("renumbered", place, old, new))
-            kept.append(renumbered(block, new))
-        stray = len(file) - BLOCK * whole
-        if stray:
-            report.append(("stray", stray))
+        for place, block in enumerate(parts(file, BLOCK)):
+            new = len(kept)
+            refusal, reason, made, old = self.rescue_block(new, block)
+            if reason == "short":
+                report.append(("stray", len(block)))
+            elif refusal == 9:
+                return None
+            elif refusal:
+                report.append(("dropped", place, refusal))
+            else:
+                kept.append(made)
+                if old != new:
+                    report.append(("renumbered", place, old, new))
         return b"".join(kept), report
 
 
-def parts(bytes_, size):
-    """Parts of a size, the last as long as it is."""
-    return [bytes_[at : at + size] for at in range(0, len(bytes_), size)]
+# Open: the report's words, which are README.md's.
 
-
-WEIGHTS = [SUMMED - place for place in range(SUMMED)]
-
-
-def sums(block):
-    """The two sums over a block's first 508 bytes."""
-    summed = block[:SUMMED]
-    return sum(summed) % MODULUS, sum(map(mul, WEIGHTS, summed)) % MODULUS
-
-
-def with_sums(block):
-    """A block with its sums made right."""
-    plain, weighted = sums(block)
-    return bytes(block[:SUMMED]) + bytes_of(plain) + bytes_of(weighted)
-
-
-def sealed(number, records):
-    """The block of some records, one to twenty."""
-    header = bytes_of(number) + bytes([len(records) // RECORD, EDITION, 0, 0, 0, 0])
-    return with_sums((header + records).ljust(SUMMED, b"\0"))
-
-
-def number_of(block):
-    return u16(block[:2])
-
-
-def records_of(block):
-    """The records of a block whose count is right."""
-    return block[FIRST : FIRST + RECORD * block[2]]
-
-
-def renumbered(block, number):
-    """A block under another number, with fresh sums; the rest of it stays."""
-    return with_sums(bytes_of(number) + block[2:])
-
-
-def sums_fault(block):
-    """Which of a block's sums are wrong, or None."""
-    found = u16(block[508:510]), u16(block[510:])
-    differ = [name for name, f, w in zip(("plain", "weighted"), found, sums(block)) if f != w]
-    return " and ".join(differ) or None
-
-
-def layout_fault(block, number=None):
-    """What is wrong with a block's header, its number if one is asked for, or its fill, or
-    None."""
-    if not 1 <= block[2] <= CAPACITY:
-        return "count"
-    if block[3] != EDITION:
-        return "edition"
-    if any(block[4:8]):
-        return "zeros"
-    if number is not None and number_of(block) != number:
-        return "number"
-    return "fill" if any(block[FIRST + RECORD * block[2] : SUMMED]) else None
+LINES = {
+    "dropped": "block {} dropped {}\n",
+    "renumbered": "block {} renumbered {} to {}\n",
+    "stray": "{} stray bytes\n",
+}
 
 
 def report_line(entry):
-    """An entry of the report, as the program writes it."""
-    kind, *numbers = entry
-    if kind == "dropped":
-        return "block %d dropped %d\n" % tuple(numbers)
-    if kind == "renumbered":
-        return "block %d renumbered %d to %d\n" % tuple(numbers)
-    return "%d stray bytes\n" % tuple(numbers)
+    return LINES[entry[0]].format(*entry[1:])
