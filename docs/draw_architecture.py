@@ -21,9 +21,9 @@ ROWS = [
     [("io", 60), ("tns", 560)],
     [("text", 60), ("answer", 560)],
     [("file", 60), ("call", 560)],
-    [("block", 60), ("shape", 640)],
+    [("block", 60), ("shape", 620)],
     [("side", 480)],
-    [("cost", 60), ("index", 400), ("lattice", 700)],
+    [("cost", 40), ("index", 400), ("lattice", 740)],
     [("check", 200)],
     [("row", 480)],
     [("law", 320)],
@@ -76,7 +76,7 @@ def boxes(uses, says):
             crates = [c for c in uses if room(c) == name]
             columns = min(ACROSS, max(1, (len(crates) + 2) // 3))
             deep = -(-len(crates) // columns)
-            width = max(columns * COLUMN, 7 * len(says.get(name, "")) // 1 * 0 + 230) + EDGE
+            width = max(columns * COLUMN, 62 * len(says.get(name, "")) // 10) + EDGE
             height = 2 * LINE + 10 + deep * LINE
             found[name] = (left, top, width, height, [crates[k * deep:(k + 1) * deep] for k in range(columns)])
             tallest = max(tallest, height)

@@ -137,13 +137,13 @@ class Format:
     @staticmethod
     def until_refused(one, lent):
         """What stands, and the refusal with its block's number, or None."""
-        stands = b""
+        stands = []
         for number, part in enumerate(lent):
             refusal, _, made = one(number, part)
             if refusal:
-                return stands, (refusal, number)
-            stands += made
-        return stands, None
+                return b"".join(stands), (refusal, number)
+            stands.append(made)
+        return b"".join(stands), None
 
     # "Refusals: 9 short last block or too many blocks; [..] in this order, block by block,
     # and the first faulty block stands." Open: a block that is both is short; no bytes are
