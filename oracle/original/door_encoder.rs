@@ -45,7 +45,7 @@ pub mod oracle_door {
         let mut rc = [0.0; 16];
         for f in 0..filters {
             let r = lags(config, p_bw, f, x_s);
-            TemporalNoiseShaping::shape_frame(&r, f, near_nyquist_flag, lpc_weighting, &mut rc);
+            TemporalNoiseShaping::tns_analysis(&r, f, near_nyquist_flag, lpc_weighting, &mut rc);
         }
         rc
     }
