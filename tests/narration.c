@@ -19,9 +19,9 @@
  *                                  a line on standard error, and 1 or 2 on descriptor 3
  *   narration answer               answers questions one after the other: see there
  *
- * Status 0, or 1 where it cannot write, or 2 if it is called wrongly. Numbers come from xorshift (13, 7,
- * 17), so the same call writes the same bytes. Assumes C99 and POSIX; `write`, `change` and `rescue` hold all
- * that they read.
+ * Status 0, or 1 where it cannot write, or 2 if it is called wrongly, or 9 as said of `rescue`. Numbers come
+ * from xorshift (13, 7, 17), so the same call writes the same bytes. Assumes C99 and POSIX; `write`, `change`
+ * and `rescue` hold all that they read.
  */
 #define _POSIX_C_SOURCE 200809L
 #include <stdint.h>

@@ -8,7 +8,6 @@ use lib.Dec.{ltb}
 use borrow.Author.Tests.{ltb-false}
 use lib.ListN.{length, getD}
 use Rattle.check_limits.specs.LowestOver.{lowestOver}
-use Rattle.check_limits.specs.declared.Over.{Over}
 use Rattle.check_limits.specs.declared.Over.the-variants.{Nowhere, At}
 
 -- the lowest place over a limit is one of the list's, and what was found stands there

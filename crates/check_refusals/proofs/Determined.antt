@@ -1,5 +1,4 @@
 -- Any two results that a contract allows for one input coincide: the law of `law_results`, cited for each public function of this crate.
-use mathlib.Core.Path.{_≡_}
 use Rattle.law_results.proofs.Determined.{Determined, itself}
 use Rattle.check_verdicts.specs.Verdicts.{Verdict, accepted, refused}
 use Rattle.check_refusals.specs.declared.Refusal.{Refusal}

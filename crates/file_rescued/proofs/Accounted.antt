@@ -1,11 +1,10 @@
 -- Every block of a file is kept or is in the report, and none is there twice: of each block the report has what is to be said of it, once, and nothing
 -- else. What is left over behind the last whole block is told last, and nothing is where nothing is left over. These are laws of `rescued`, which is
 -- what an accepted call gives (`few-kept`).
-use mathlib.Core.Path.{_≡_, refl, sym, _∙_, ap}
+use mathlib.Core.Path.{_≡_, refl, _∙_, ap}
 use mathlib.Core.Bool.{Bool, true, false, cond}
 use mathlib.Core.List.{List, [], _∷_, _++_, append-nil}
 use Prim.Native.Nat.{ℕ, zero, suc, _+_, _-_, _*_, _≤_, _<_}
-use native.Mathlib.Decide.{decLt}
 use native.Mathlib.Omega.{arith}
 use borrow.Author.Tests.{eq-eqb, ne-eqb, le-ltb, lt-ltb}
 use lib.Dec.{eqb, ltb}
@@ -22,8 +21,7 @@ use Rattle.block_rescue.specs.Rescue.{keptVerdict}
 use Rattle.block_rescue.proofs.Kept.{too-short}
 use Rattle.file_rescued.specs.Rescues.{Entry, dropped, moved, stray, keptOf, entriesBy, entriesOf, numberAfter, reportFrom, rescued}
 use Rattle.file_rescued.proofs.Portioned.{portion-at}
-use Rattle.file_rescued.proofs.KeptBlocks.{left-first}
-use Rattle.file_rescued.proofs.Reports.{report-left, number-after, kept-split, report-split}
+use Rattle.file_rescued.proofs.Reports.{report-left, number-after, report-split}
 
 -- ---- what a report has of a block
 

@@ -1,6 +1,6 @@
 -- A wrong number alone drops no block: blocks that were written under any numbers, one behind the other, are all kept, with their records in order. So
 -- a gap, a block that stands there twice and blocks in the wrong order cost no other block.
-use mathlib.Core.Path.{_≡_, refl, sym, _∙_, ap}
+use mathlib.Core.Path.{_≡_, refl, _∙_, ap}
 use mathlib.Core.List.{List, [], _∷_, _++_, map}
 use Prim.Native.Nat.{ℕ, suc, _≤_}
 use native.Mathlib.Omega.{arith}

@@ -11,7 +11,6 @@ use Rattle.law_lists.specs.Portions.{portions}
 use Rattle.law_lists.proofs.Parts.{part-of-first, part-of-rest}
 use Rattle.law_lists.proofs.Portions.{portions-after}
 use Rattle.check_verdicts.specs.Verdicts.{Verdict, accepted, refused}
-use Rattle.check_verdicts.proofs.Verdicts.{not-accepted}
 use Rattle.block_numbers.specs.Words.{wordBytes}
 use Rattle.block_parts.specs.Parts.{countIn, sumBytes}
 use Rattle.block_parts.proofs.Counted.{few-records}
@@ -21,7 +20,7 @@ use Rattle.block_rescue.proofs.Kept.{renumbered-length}
 use Rattle.file_rescued.specs.Rescues.{keptOf, numberedFrom, Rescued, rescueOf}
 use Rattle.file_rescued.proofs.Portioned.{file-portions, portion-at}
 use Rattle.file_rescued.proofs.KeptBlocks.{KeptBlock, AllKept, kept-first, left-first, kept-all}
-use Rattle.file_rescued.proofs.MendedRead.{keptIn, few-kept}
+use Rattle.file_rescued.proofs.MendedRead.{few-kept}
 use Rattle.file_rescued.proofs.Accounted.{blockAt, newNumber, enough-portions}
 
 -- ---- among the kept ones

@@ -1,10 +1,10 @@
 -- A kept block, as it becomes, is the one that its records are written as under its new number: so the file that the kept blocks make is one that the
 -- writer could have made of them.
-use mathlib.Core.Path.{_≡_, refl, sym, _∙_, ap}
+use mathlib.Core.Path.{_≡_, refl, _∙_, ap}
 use mathlib.Core.List.{List, [], _∷_, _++_, map}
-use Prim.Native.Nat.{ℕ, zero, suc, _+_, _*_, _≤_, _<_}
+use Prim.Native.Nat.{ℕ, suc, _*_, _≤_}
 use native.Mathlib.Omega.{arith}
-use lib.ListN.{length, length-map}
+use lib.ListN.{length}
 use lib.Seq.{take-at}
 use Rattle.law_lists.specs.Places.{part}
 use Rattle.check_verdicts.specs.Verdicts.{Fault, Verdict, accepted, refused, unlessRefused}

@@ -1,18 +1,17 @@
 -- What comes out of a rescue is read whole, and gives the records of the kept blocks, in their order.
-use mathlib.Core.Path.{_≡_, refl, sym, _∙_, ap, subst}
-use mathlib.Core.Bool.{Bool, true, false}
+use mathlib.Core.Path.{_≡_, sym, _∙_, ap}
+use mathlib.Core.Bool.{Bool}
 use mathlib.Core.List.{List, map}
-use Prim.Native.Nat.{ℕ, _+_, _≤_, _<_}
+use Prim.Native.Nat.{ℕ, _≤_, _<_}
 use native.Mathlib.Decide.{decLt}
 use native.Mathlib.Omega.{arith}
 use borrow.Author.Tests.{lt-ltb, le-ltb}
-use lib.Dec.{ltb}
 use lib.ListN.{length, length-map}
 use Rattle.law_lists.specs.Portions.{portions}
-use Rattle.check_verdicts.specs.Verdicts.{Verdict, numbered, accepted, refused, check}
+use Rattle.check_verdicts.specs.Verdicts.{numbered, accepted, refused, check}
 use Rattle.check_verdicts.proofs.Verdicts.{not-accepted}
 use Rattle.block_parts.specs.Parts.{recordsIn}
-use Rattle.file_narration.specs.Files.{whole, Outcome, reading}
+use Rattle.file_narration.specs.Files.{whole, reading}
 use Rattle.file_narration.proofs.Cuts.{joined}
 use Rattle.file_narration.proofs.OnlyBlock.{AreBytes}
 use Rattle.file_narration.proofs.ReadBack.{any-count}

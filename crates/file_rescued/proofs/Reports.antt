@@ -1,13 +1,12 @@
 -- Laws of the report: what its first portion adds to it, and that a file in two parts is reported part by part.
 use mathlib.Core.Path.{_≡_, refl, sym, _∙_, ap}
 use mathlib.Core.List.{List, [], _∷_, _++_, append-assoc}
-use Prim.Native.Nat.{ℕ, zero, suc, _+_, _≤_}
+use Prim.Native.Nat.{ℕ, suc, _+_, _≤_}
 use native.Mathlib.Omega.{arith}
 use lib.ListN.{length}
 use Rattle.check_verdicts.specs.Verdicts.{Fault, Verdict, accepted, refused, unlessRefused}
 use Rattle.block_rescue.specs.Rescue.{keptVerdict, renumbered}
 use Rattle.file_rescued.specs.Rescues.{Entry, keptOf, numberedFrom, entriesBy, entriesOf, numberAfter, reportFrom}
-use Rattle.file_rescued.proofs.KeptBlocks.{kept-first, left-first}
 
 module _ (place number : ℕ) (portion : List ℕ) (rest : List (List ℕ)) where
   pub report-kept : (records : List ℕ) → keptVerdict portion ≡ accepted records

@@ -1,31 +1,29 @@
 -- A file that the reader accepts comes out of a rescue as it was, with an empty report. What comes out of any rescue is such a file: to rescue it
 -- again changes nothing more.
-use mathlib.Core.Path.{_≡_, refl, sym, _∙_, ap, subst}
-use mathlib.Core.Bool.{Bool, cond}
-use mathlib.Core.List.{List, [], _∷_, _++_, map}
-use Prim.Native.Nat.{ℕ, zero, suc, _+_, _-_, _*_, _/_, _%_, _≤_, _<_}
+use mathlib.Core.Path.{_≡_, sym, _∙_, ap, subst}
+use mathlib.Core.List.{List, [], _∷_, _++_}
+use Prim.Native.Nat.{ℕ, zero, suc, _+_, _-_, _≤_, _<_}
 use native.Mathlib.Decide.{decLt}
 use native.Mathlib.Omega.{arith}
-use lib.Dec.{eqb}
 use lib.ListN.{length, getD, take, drop, length-take, length-drop, List·getD-append}
 use lib.Seq.{getD-append-add}
 use Rattle.law_lists.specs.Places.{part}
 use Rattle.law_lists.specs.Portions.{portions}
 use Rattle.law_lists.proofs.Portions.{portions-first, portions-none}
-use Rattle.check_verdicts.specs.Verdicts.{Verdict, accepted, refused, unlessRefused}
+use Rattle.check_verdicts.specs.Verdicts.{accepted}
 use Rattle.block_numbers.specs.Words.{wordBytes}
 use Rattle.block_numbers.specs.Sums.{sumsOf}
-use Rattle.block_parts.specs.Parts.{numberIn, recordsIn, sumBytes}
-use Rattle.block_check.specs.Blocks.{blockVerdict, readVerdict}
+use Rattle.block_parts.specs.Parts.{recordsIn, sumBytes}
+use Rattle.block_check.specs.Blocks.{readVerdict}
 use Rattle.block_check.proofs.Verdicts.{AcceptedBlock, all-right}
-use Rattle.file_narration.specs.Files.{whole, Outcome, runFrom, reading, blocksFrom}
+use Rattle.file_narration.specs.Files.{whole, Outcome, runFrom, reading}
 use Rattle.file_narration.proofs.Cuts.{no-members}
 use Rattle.file_narration.proofs.OnlyBlock.{AreBytes, first-whole, first-accepted, first-bytes, rest-bytes, only-file}
-use Rattle.block_rescue.specs.Rescue.{keptVerdict, renumbered}
+use Rattle.block_rescue.specs.Rescue.{renumbered}
 use Rattle.block_rescue.proofs.Kept.{any-number}
-use Rattle.file_rescued.specs.Rescues.{Entry, keptOf, numberedFrom, entriesBy, reportFrom, Rescued, rescued, rescueOf}
-use Rattle.file_rescued.proofs.Portioned.{AllPortions, file-portions}
-use Rattle.file_rescued.proofs.KeptBlocks.{KeptBlock, AllKept, kept-first, kept-all, numbered-blocks}
+use Rattle.file_rescued.specs.Rescues.{Entry, keptOf, numberedFrom, entriesBy, reportFrom, Rescued, rescueOf}
+use Rattle.file_rescued.proofs.Portioned.{file-portions}
+use Rattle.file_rescued.proofs.KeptBlocks.{AllKept, kept-first, kept-all, numbered-blocks}
 use Rattle.file_rescued.proofs.Reports.{report-kept}
 use Rattle.file_rescued.proofs.MendedRead.{keptIn, rescued-if, few-kept, reads-mended}
 

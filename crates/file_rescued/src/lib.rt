@@ -1,2 +1,2 @@
 // The rescue of a damaged narration, its file as a whole. Definitions and laws without code: the step for
-// a block is in tns_block_rescue, and what the program makes of a piece of a file in io_rescue.
+// a block is in block_rescue, and what the program makes of a piece of a file in io_rescue.

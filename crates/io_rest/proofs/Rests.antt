@@ -1,6 +1,5 @@
 -- The whole units are no more than was read, and what is left over is less than a unit.
-use mathlib.Core.Path.{_≡_}
-use Prim.Native.Nat.{ℕ, _+_, _-_, _*_, _/_, _%_, _≤_, _<_}
+use Prim.Native.Nat.{ℕ, _-_, _≤_, _<_}
 use native.Mathlib.Nat.{div-add-mod', mod-lt}
 use native.Mathlib.Omega.{arith}
 use Rattle.io_rest.specs.Rest.{wholeBytes}

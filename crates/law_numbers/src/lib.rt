@@ -1,4 +1,5 @@
-// The lesser and the greater of two numbers: the one code of the room of laws, which every other room uses.
+// The lesser and the greater of two numbers: the one code of the room of laws. Whoever cuts a count to what
+// there is uses it, from the lattice to the programs.
 ghost use mathlib.Core.Path.{_≡_};
 ghost use Prim.Native.Nat.{min, max};
 

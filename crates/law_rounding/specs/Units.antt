@@ -1,5 +1,5 @@
 -- An f32 as a whole number of small units.
-use Prim.Native.Nat.{ℕ, _+_, _*_, _/_, _^_, _≤_}
+use Prim.Native.Nat.{ℕ, _*_, _/_, _^_, _≤_}
 use mathlib.Core.Bool.{Bool, cond}
 use lib.Dec.{T}
 use lib.IntN.{ℤ, pos, negℤ, natAbs, _+ℤ_, _-ℤ_}

@@ -19,13 +19,13 @@ indicesIn side = side .first .indices ++ side .second .indices
 abbrev pub coefficientsIn : SideData → List Float
 coefficientsIn side = side .first .coefficients ++ side .second .coefficients
 
--- the fields of its record
+-- the fields of its 20 bytes
 abbrev pub fieldsIn : SideData → Fields
 fieldsIn side = record { weighting = side .weighting; filters = side .filters; orders = ordersIn side; indices = indicesIn side }
 
 -- the 20 bytes of the bits program
-abbrev pub recordOf : SideData → List ℕ
-recordOf side = bytesOf (fieldsIn side)
+abbrev pub bytesIn : SideData → List ℕ
+bytesIn side = bytesOf (fieldsIn side)
 
 -- its cost
 abbrev pub bitsOf : SideData → ℕ

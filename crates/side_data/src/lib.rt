@@ -4,7 +4,7 @@ use cost_bytes::side_bytes;
 use side_quantized::Quantized;
 ghost use mathlib.Core.Path.{_≡_};
 ghost use mathlib.Core.List.{_++_};
-ghost use Rattle.side_data.specs.Side.{recordOf, coefficientsIn};
+ghost use Rattle.side_data.specs.Side.{bytesIn, coefficientsIn};
 
 // What goes beside the bits: the weighting, the number of filters, and both filters. Where the row has
 // no second band, the second filter is that of `side_quantized::none`.
@@ -16,8 +16,8 @@ pub struct SideData {
 }
 
 // Side data as the 20 bytes of the bits program.
-pub fn record_of(side: SideData) -> [u8; 20]
-    ensures { λ r. ⌜ r ≡ recordOf side ⌝ }
+pub fn bytes_of(side: SideData) -> [u8; 20]
+    ensures { λ r. ⌜ r ≡ bytesIn side ⌝ }
 {
     let first = side.first;
     let second = side.second;

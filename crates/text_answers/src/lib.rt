@@ -1,4 +1,4 @@
-// The text of a record's line, as the bits program writes it, and that of a refused block.
+// The text of a frame's line, as the bits program writes it, and that of a refused block.
 use check_refusals::Refusal;
 use cost_bytes::BytesAnswer;
 use cost_call::CostAnswer;

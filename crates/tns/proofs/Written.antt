@@ -6,15 +6,15 @@ use lib.Ieee.{Float}
 use Rattle.check_verdicts.specs.Verdicts.{Fault, Verdict, accepted, refused, unlessRefused}
 use Rattle.check_verdicts.proofs.Verdicts.{not-accepted}
 use Rattle.call_encode.specs.Encoder.{bitsVerdict, sideIn}
-use Rattle.side_data.specs.Side.{recordOf, coefficientsIn}
+use Rattle.side_data.specs.Side.{bytesIn, coefficientsIn}
 use Rattle.side_data.specs.declared.SideData.{SideData}
 
 pub refused-writes : (v : Verdict SideData) (why : Fault) → refused why ≡ bitsVerdict v → (bytes : List ℕ) (coefficients : List Float)
-    → (bytes ≡ unlessRefused v recordOf bytes) × (coefficients ≡ unlessRefused v coefficientsIn coefficients)
+    → (bytes ≡ unlessRefused v bytesIn bytes) × (coefficients ≡ unlessRefused v coefficientsIn coefficients)
 refused-writes (accepted s) why e r q = not-accepted e
 refused-writes (refused fault) why e r q = (refl, refl)
 
 pub accepted-writes : (v : Verdict SideData) (n : ℕ) (s : SideData) → accepted n ≡ bitsVerdict v → s ≡ sideIn v → (bytes : List ℕ) (coefficients : List Float)
-    → (recordOf s ≡ unlessRefused v recordOf bytes) × (coefficientsIn s ≡ unlessRefused v coefficientsIn coefficients)
-accepted-writes (accepted side) n s e f r q = (ap recordOf f, ap coefficientsIn f)
+    → (bytesIn s ≡ unlessRefused v bytesIn bytes) × (coefficientsIn s ≡ unlessRefused v coefficientsIn coefficients)
+accepted-writes (accepted side) n s e f r q = (ap bytesIn f, ap coefficientsIn f)
 accepted-writes (refused fault) n s e f r q = not-accepted (sym e)

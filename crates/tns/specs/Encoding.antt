@@ -5,7 +5,7 @@ use Prim.Native.Nat.{ℕ, _≤_}
 use lib.Ieee.{Float}
 use Rattle.check_verdicts.specs.Verdicts.{Verdict, unlessRefused, IfAccepted, itsBits}
 use Rattle.row_bands.specs.declared.Row.{Row}
-use Rattle.side_data.specs.Side.{recordOf, coefficientsIn}
+use Rattle.side_data.specs.Side.{bytesIn, coefficientsIn}
 use Rattle.side_data.specs.declared.SideData.{SideData}
 use Rattle.side_near.specs.NearExact.{NearExact}
 use Rattle.call_encode.specs.Encoder.{bitsVerdict, sideIn, linesAfter}
@@ -23,7 +23,7 @@ pub record Lent : Type 0 where
 pub record TnsEncodes (verdict : Verdict SideData) (row : Row) (found left : Lent) (result : Answer) : Type 0 where
   pub answer : result ≡ answerFor itsBits (bitsVerdict verdict)
   pub lines : left .lines ≡ linesAfter verdict row (found .lines)
-  pub side : left .bytes ≡ unlessRefused verdict recordOf (found .bytes)
+  pub side : left .bytes ≡ unlessRefused verdict bytesIn (found .bytes)
   pub coefficients : left .coefficients ≡ unlessRefused verdict coefficientsIn (found .coefficients)
   pub near : IfAccepted verdict (NearExact row (sideIn verdict) (found .lines) (left .lines))
   pub few-bits : result .bits ≤ 168

@@ -19,8 +19,8 @@ use call_restart::save;
 use cost_call::CostAnswer;
 use cost_call::cost;
 pub use rescue::tns_block_rescue;
+use side_data::bytes_of;
 use side_data::coefficients_of;
-use side_data::record_of;
 ghost use mathlib.Core.Path.{_≡_};
 ghost use Prim.Native.Nat.{_≤_};
 ghost use lib.ListN.{length};
@@ -138,7 +138,7 @@ pub extern "C" fn tns_encode(
         EncodeAnswer::Refused(why) => refused(why),
         EncodeAnswer::Bits(n) => {
             let s = encoded.side;
-            *side = record_of(s);
+            *side = bytes_of(s);
             *coefficients = coefficients_of(s);
             accepted(n)
         }

@@ -1,11 +1,11 @@
 -- The invariant: so many of the bytes are laid after the number.
-use mathlib.Core.Path.{_≡_, refl, sym, _∙_, ap}
+use mathlib.Core.Path.{_≡_, sym, _∙_, ap}
 use mathlib.Core.List.{List, _++_}
 use Prim.Native.Nat.{ℕ, _+_, _-_, _≤_, _<_}
 use native.Mathlib.Numerals.{add-one}
 use native.Mathlib.Omega.{arith}
 use borrow.Author.Needs.{needs}
-use lib.ListN.{length, set, getD, drop, replicate, length-set}
+use lib.ListN.{length, set, getD, replicate, length-set}
 use lib.Seq.{paste, paste-zero, paste-suc, take-all}
 use Rattle.block_numbers.specs.Words.{wordBytes}
 use Rattle.block_rescue.proofs.body_of.Statement.{statement}

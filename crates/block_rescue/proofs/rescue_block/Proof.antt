@@ -1,5 +1,5 @@
 -- A fault; no number left; or the block with its number and fresh sums.
-use mathlib.Core.Path.{_≡_, refl, sym, _∙_, ap, subst}
+use mathlib.Core.Path.{_≡_, refl, sym, _∙_, ap}
 use mathlib.Core.List.{List, _++_}
 use Prim.Native.Nat.{ℕ, _≤_}
 use native.Mathlib.Omega.{arith}
@@ -8,7 +8,7 @@ use lib.ListN.{length, take, drop, replicate, length-take, length-drop}
 use lib.Seq.{take-at}
 use Rattle.law_lists.specs.Places.{part}
 use Rattle.law_lists.proofs.Parts.{part-of-first}
-use Rattle.check_verdicts.specs.Verdicts.{Verdict, accepted, refused, unlessRefused, onAccepted}
+use Rattle.check_verdicts.specs.Verdicts.{Verdict, accepted, unlessRefused, onAccepted}
 use Rattle.block_numbers.specs.Words.{wordBytes}
 use Rattle.block_parts.specs.Parts.{numberIn, sumBytes}
 use Rattle.block_check.proofs.Verdicts.{MadeFrom, refused-too, accepted-too}

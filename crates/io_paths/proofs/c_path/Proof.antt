@@ -1,9 +1,9 @@
 -- The last byte of the copy is never written.
 use mathlib.Core.Path.{_≡_, refl, _∙_}
-use Prim.Native.Nat.{ℕ, _-_, _≤_, _<_}
+use Prim.Native.Nat.{_-_, _≤_}
 use native.Mathlib.Omega.{arith}
 use borrow.Author.Tests.{ltb-true}
-use lib.ListN.{length, getD, set, length-set}
+use lib.ListN.{length, getD, length-set}
 use lib.Seq.{getD-set-other}
 use Rattle.io_paths.proofs.c_path.Statement.{statement}
 use Rattle.io_paths.proofs.c_path.Tie as tie

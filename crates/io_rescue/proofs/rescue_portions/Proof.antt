@@ -1,6 +1,6 @@
 -- The invariant is that of `SoFar`. A portion that another follows is a whole block, so that places and bytes go on together; it adds no more than it
 -- takes, and a line at most: there is room for one more.
-use mathlib.Core.Path.{_≡_, refl, sym, _∙_, ap, subst}
+use mathlib.Core.Path.{_≡_, refl, sym, subst}
 use mathlib.Core.List.{List, _++_}
 use Prim.Native.Nat.{ℕ, suc, _+_, _-_, _*_, _<_, _≤_, min}
 use native.Mathlib.Numerals.{add-one}

@@ -1,16 +1,15 @@
 -- The block as it becomes, from its own buffer, and its line if its number is another; or nothing, and a line.
-use mathlib.Core.Path.{_≡_, refl, sym, _∙_, ap}
+use mathlib.Core.Path.{_≡_, sym, _∙_, ap}
 use mathlib.Core.List.{List, []}
-use Prim.Native.Nat.{ℕ, suc, _+_}
+use Prim.Native.Nat.{ℕ}
 use native.Mathlib.Numerals.{add-one}
 use native.Mathlib.Omega.{arith}
 use borrow.Author.Needs.{needs}
 use lib.ListN.{length}
-use Rattle.check_verdicts.specs.Verdicts.{Fault, numbered, numberOf, Verdict, accepted, refused, unlessRefused}
+use Rattle.check_verdicts.specs.Verdicts.{Fault, numbered, numberOf, Verdict, unlessRefused}
 use Rattle.block_check.specs.Told.{blockFault}
 use Rattle.block_check.specs.declared.check.BlockRefusal.{BlockRefusal}
 use Rattle.block_check.specs.declared.check.BlockRefusal.the-variants.{Length, Sums, Layout, Record}
-use Rattle.block_rescue.specs.Rescue.{rescueVerdict}
 use Rattle.text_put.proofs.Texts.{puts-same}
 use Rattle.file_rescued.specs.Rescues.{entriesBy, keptEntries, leftEntries, nextBy}
 use Rattle.text_report.specs.ReportText.{reportText}

@@ -1,12 +1,11 @@
 -- Nothing, or the line of a block that is renumbered.
-use mathlib.Core.Path.{_≡_, refl, sym, _∙_, ap}
-use mathlib.Core.Bool.{Bool, cond}
-use mathlib.Core.List.{List, [], _∷_, append-nil}
+use mathlib.Core.Path.{_≡_, sym}
+use mathlib.Core.List.{[], append-nil}
 use Prim.Native.Nat.{ℕ}
 use borrow.Author.Needs.{needs}
 use borrow.Author.Tests.{eq-eqb, ne-eqb}
 use Rattle.text_put.proofs.Texts.{puts-same}
-use Rattle.file_rescued.specs.Rescues.{Entry, moved, keptEntries}
+use Rattle.file_rescued.specs.Rescues.{moved, keptEntries}
 use Rattle.text_report.specs.ReportText.{entryText, reportText}
 use Rattle.text_report.proofs.put_kept.Statement.{statement}
 use Rattle.text_report.proofs.put_kept.Tie as tie

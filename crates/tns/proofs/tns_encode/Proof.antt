@@ -65,7 +65,7 @@ returns-2 c =
     record {
       answer = answer;
       lines = door .lines;
-      side = recorded .record-of .ensures ∙ writes .0;
+      side = recorded .bytes-of .ensures ∙ writes .0;
       coefficients = joined .coefficients-of .ensures ∙ writes .1;
       near = door .near;
       few-bits = few _ _ (bitsVerdict v) (door .answer) (door .few-bits) answer;
