@@ -2,31 +2,21 @@
 use Rattle.law_results.proofs.Determined.{Determined, itself}
 use Rattle.cost_tables.proofs.coef_bits.Kinds as coef-bits-kinds
 use Rattle.cost_tables.proofs.coef_bits.Reads as coef-bits-reads
-use Rattle.cost_tables.proofs.coef_cumfreq.Kinds as coef-cumfreq-kinds
-use Rattle.cost_tables.proofs.coef_cumfreq.Reads as coef-cumfreq-reads
-use Rattle.cost_tables.proofs.coef_freq.Kinds as coef-freq-kinds
-use Rattle.cost_tables.proofs.coef_freq.Reads as coef-freq-reads
+use Rattle.cost_tables.proofs.of_coefficient.Kinds as of-coefficient-kinds
+use Rattle.cost_tables.proofs.of_coefficient.Reads as of-coefficient-reads
+use Rattle.cost_tables.proofs.of_order.Kinds as of-order-kinds
+use Rattle.cost_tables.proofs.of_order.Reads as of-order-reads
 use Rattle.cost_tables.proofs.order_bits.Kinds as order-bits-kinds
 use Rattle.cost_tables.proofs.order_bits.Reads as order-bits-reads
-use Rattle.cost_tables.proofs.order_cumfreq.Kinds as order-cumfreq-kinds
-use Rattle.cost_tables.proofs.order_cumfreq.Reads as order-cumfreq-reads
-use Rattle.cost_tables.proofs.order_freq.Kinds as order-freq-kinds
-use Rattle.cost_tables.proofs.order_freq.Reads as order-freq-reads
 
 coef-bits : Determined 0 coef-bits-kinds.ps coef-bits-kinds.r coef-bits-reads.Post
 coef-bits κs a x y s t p q = itself p q
 
-coef-cumfreq : Determined 0 coef-cumfreq-kinds.ps coef-cumfreq-kinds.r coef-cumfreq-reads.Post
-coef-cumfreq κs a x y s t p q = itself p q
+of-coefficient : Determined 1 of-coefficient-kinds.ps of-coefficient-kinds.r of-coefficient-reads.Post
+of-coefficient κs a x y s t p q = itself p q
 
-coef-freq : Determined 0 coef-freq-kinds.ps coef-freq-kinds.r coef-freq-reads.Post
-coef-freq κs a x y s t p q = itself p q
+of-order : Determined 1 of-order-kinds.ps of-order-kinds.r of-order-reads.Post
+of-order κs a x y s t p q = itself p q
 
 order-bits : Determined 0 order-bits-kinds.ps order-bits-kinds.r order-bits-reads.Post
 order-bits κs a x y s t p q = itself p q
-
-order-cumfreq : Determined 0 order-cumfreq-kinds.ps order-cumfreq-kinds.r order-cumfreq-reads.Post
-order-cumfreq κs a x y s t p q = itself p q
-
-order-freq : Determined 0 order-freq-kinds.ps order-freq-kinds.r order-freq-reads.Post
-order-freq κs a x y s t p q = itself p q

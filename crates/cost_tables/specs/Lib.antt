@@ -1,3 +1,3 @@
--- What a reader has to believe of T.
+-- What a reader has to believe of T's costs.
 pub mod Tables
 pub mod Rules

@@ -1,0 +1,3 @@
+-- What a reader has to believe of T's frequencies.
+pub mod Frequencies
+pub mod Rules
