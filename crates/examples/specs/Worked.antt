@@ -18,7 +18,8 @@ use Rattle.law_lists.specs.Lines.{linesThrough, stateThrough}
 use Rattle.row_bands.specs.declared.Row.{Row}
 use Rattle.row_durations.specs.declared.Duration.the-variants.{SevenPointFive}
 use Rattle.law_lists.specs.Places.{tab}
-use Rattle.shape_lags.specs.Autocorrelation.{products, lagSum, normalizedLag, autocorrelation}
+use Rattle.shape_sums.specs.LagSums.{products, lagSum}
+use Rattle.shape_lags.specs.Autocorrelation.{normalizedLag, autocorrelation}
 use Rattle.shape_recursion.specs.Recursion.{crossed, reflection, nextRow, stepped, unpredicted, predicted}
 use Rattle.shape_gain.specs.Gain.{gainOf, isOn, dampingOf, gainRecord}
 use Rattle.shape_reflections.specs.Reflections.{powerFrom, power, damped, rowBelow, rowAt, reflections}

@@ -7,8 +7,9 @@ use lib.Ieee.{Float, eq}
 use Rattle.law_rounding.specs.Floats.{_⊗_, f0}
 use Rattle.law_lists.specs.Places.{at, tab}
 use Rattle.law_lists.proofs.Tab.{length-tab, at-tab, is-tab}
-use Rattle.shape_lags.specs.Autocorrelation.{lagSum, normalizedLag}
-use Rattle.shape_lags.specs.PartialSums.{lagCell}
+use Rattle.shape_sums.specs.LagSums.{lagSum}
+use Rattle.shape_lags.specs.Autocorrelation.{normalizedLag}
+use Rattle.shape_lags.specs.LagCells.{lagCell}
 
 -- a lag from the sums is the lag of the subbands
 module _ (xs ys zs a b c : List Float) (ea : a ≡ tab (lagSum xs) 9) (eb : b ≡ tab (lagSum ys) 9) (ec : c ≡ tab (lagSum zs) 9) where

@@ -1,5 +1,4 @@
 -- The laws that belong to no one function.
-pub mod Adding
 pub mod Lags
 pub mod LongRows
 pub mod Determined

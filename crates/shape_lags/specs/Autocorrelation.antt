@@ -1,22 +1,13 @@
 -- Document 01, "Analysis": the autocorrelation of a band at lags 0 to 8.
 use mathlib.Core.Bool.{cond}
 use mathlib.Core.List.{List, [], _∷_, map}
-use Prim.Native.Nat.{ℕ, zero, suc, _+_, _-_}
+use Prim.Native.Nat.{ℕ}
 use lib.Dec.{eqb}
-use lib.ListN.{length}
 use lib.Ieee.{Float, eq, ofBits, binary32}
 use Rattle.row_bands.specs.declared.Band.{Band}
 use Rattle.law_rounding.specs.Floats.{_⊕_, _⊗_, _⊘_, f0}
 use Rattle.law_lists.specs.Places.{part, at, tab}
-
--- the sum of the first m products of lines k apart, in line order
-unfoldable pub products : List Float → ℕ → ℕ → Float
-products xs k zero = f0
-products xs k (suc m) = products xs k m ⊕ at xs m ⊗ at xs (m + k)
-
--- ac: the products of lines k apart, inside a subband. At lag 0 it is es, the sum of the squares.
-unfoldable pub lagSum : List Float → ℕ → Float
-lagSum xs k = products xs k (length xs - k)
+use Rattle.shape_sums.specs.LagSums.{lagSum}
 
 -- the three subbands of a band
 abbrev pub lowest : Band → List Float → List Float

@@ -1,4 +1,4 @@
 -- What a reader has to believe of the lags of a band.
 pub mod Autocorrelation
-pub mod PartialSums
+pub mod LagCells
 pub mod LongBands

@@ -1,15 +1,15 @@
-// The autocorrelation of a band at lags 0 to 8. The nine sums of a subband are made side by side in
-// one pass: each is added up in line order, as the definition has it, and lag 0 is the energy.
+// The autocorrelation of a band at lags 0 to 8, from the sums of its three subbands.
 use row_bands::Band;
+use shape_sums::lag_sums;
 ghost use mathlib.Core.Path.{_≡_};
-ghost use Prim.Native.Nat.{_+_, _-_, _<_, _≤_};
+ghost use Prim.Native.Nat.{_<_};
 ghost use lib.ListN.{length};
 ghost use lib.Ieee.{eq};
 ghost use Rattle.law_lists.specs.Places.{at, tab};
 ghost use Rattle.law_rounding.specs.Floats.{_⊗_, _⊘_, f0};
-ghost use Rattle.shape_lags.specs.Autocorrelation.{lagSum, whereSilent, autocorrelation};
+ghost use Rattle.shape_lags.specs.Autocorrelation.{whereSilent, autocorrelation};
 ghost use Rattle.shape_lags.specs.LongBands.{Long};
-ghost use Rattle.shape_lags.specs.PartialSums.{addedCell, sumsTo, plainCell, lagCell};
+ghost use Rattle.shape_lags.specs.LagCells.{plainCell, lagCell};
 
 const LAG_WINDOW: [f32; 9] = [
     1.0,
@@ -22,45 +22,6 @@ const LAG_WINDOW: [f32; 9] = [
     0.9078082299969592,
     0.8813231366694713,
 ];
-
-// A line's products with itself and the lines after it, added to the first m of the nine sums.
-fn line_added(sums: [f32; 9], lines: &[f32], n: usize, m: usize) -> [f32; 9]
-    requires { ⌜ (m ≤ 9) × (n + m ≤ length (now lines)) ⌝ }
-    ensures { λ r. ⌜ r ≡ tab (addedCell sums (now (lines .entry)) n m) 9 ⌝ }
-{
-    let mut added = sums;
-    for k in 0..m {
-        added[k] = added[k] + lines[n] * lines[n + k];
-    }
-    added
-}
-
-// The lines that have eight more after them: each has a product at every lag.
-fn whole_sums(lines: &[f32]) -> [f32; 9]
-    requires { ⌜ 8 ≤ length (now lines) ⌝ }
-    ensures { λ r. ⌜ r ≡ sumsTo (now (lines .entry)) (length (now (lines .entry)) - 8) ⌝ }
-{
-    let mut sums = [0.0; 9];
-    for n in 0..lines.len() - 8 {
-        let next = line_added(sums, lines, n, 9);
-        sums = next;
-    }
-    sums
-}
-
-// The nine sums of a subband of eight lines or more. Its last eight lines are a loop of known length,
-// which the compiler lays out.
-fn lag_sums(lines: &[f32]) -> [f32; 9]
-    requires { ⌜ 8 ≤ length (now lines) ⌝ }
-    ensures { λ r. ⌜ r ≡ tab (lagSum (now (lines .entry))) 9 ⌝ }
-{
-    let mut sums = whole_sums(lines);
-    for n in lines.len() - 8..lines.len() {
-        let next = line_added(sums, lines, n, lines.len() - n);
-        sums = next;
-    }
-    sums
-}
 
 // What a subband adds to a lag: ac/es.
 fn quotient(sums: [f32; 9], k: usize) -> f32

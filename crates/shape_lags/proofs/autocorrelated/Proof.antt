@@ -6,8 +6,9 @@ use lib.Ieee.{Float, eq}
 use Rattle.row_bands.specs.declared.Band.{Band}
 use Rattle.law_rounding.specs.Floats.{_⊗_, f0}
 use Rattle.law_lists.specs.Places.{at, tab}
-use Rattle.shape_lags.specs.Autocorrelation.{lagSum, autocorrelation, lowest, middle, highest}
-use Rattle.shape_lags.specs.PartialSums.{lagCell}
+use Rattle.shape_sums.specs.LagSums.{lagSum}
+use Rattle.shape_lags.specs.Autocorrelation.{autocorrelation, lowest, middle, highest}
+use Rattle.shape_lags.specs.LagCells.{lagCell}
 use Rattle.shape_lags.proofs.Lags.{lags-are}
 use Rattle.shape_lags.proofs.autocorrelated.Statement.{statement}
 use Rattle.shape_lags.proofs.autocorrelated.Tie as tie

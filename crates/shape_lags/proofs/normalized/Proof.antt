@@ -7,7 +7,7 @@ use lib.ListN.{length, length-set}
 use Rattle.law_rounding.specs.Floats.{_⊗_}
 use Rattle.law_lists.specs.Places.{at}
 use Rattle.shape_lags.specs.Autocorrelation.{lagWindow}
-use Rattle.shape_lags.specs.PartialSums.{plainCell, lagCell}
+use Rattle.shape_lags.specs.LagCells.{plainCell, lagCell}
 use Rattle.law_lists.proofs.Tab.{is-tab, filled-more}
 use Rattle.shape_lags.proofs.normalized.Statement.{statement}
 use Rattle.shape_lags.proofs.normalized.Tie as tie

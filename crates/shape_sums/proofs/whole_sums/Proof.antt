@@ -6,10 +6,10 @@ use native.Mathlib.Omega.{arith}
 use lib.Ieee.{Float}
 use lib.ListN.{length}
 use Rattle.law_lists.specs.Places.{tab}
-use Rattle.shape_lags.specs.PartialSums.{addedCell, sumsTo}
-use Rattle.shape_lags.proofs.Adding.{sums-none, sums-more}
-use Rattle.shape_lags.proofs.whole_sums.Statement.{statement}
-use Rattle.shape_lags.proofs.whole_sums.Tie as tie
+use Rattle.shape_sums.specs.PartialSums.{addedCell, sumsTo}
+use Rattle.shape_sums.proofs.Adding.{sums-none, sums-more}
+use Rattle.shape_sums.proofs.whole_sums.Statement.{statement}
+use Rattle.shape_sums.proofs.whole_sums.Tie as tie
 
 abbrev Inv-loop : tie.InvT-loop
 Inv-loop lines sums₀ n₀ n-end sums n = (n ≤ n-end) × (n-end ≡ length lines - 8) × (sums ≡ sumsTo lines n)

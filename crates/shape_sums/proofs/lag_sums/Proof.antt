@@ -7,10 +7,10 @@ use borrow.Author.Needs.{needs}
 use lib.Ieee.{Float}
 use lib.ListN.{length}
 use Rattle.law_lists.specs.Places.{tab}
-use Rattle.shape_lags.specs.PartialSums.{addedCell, sumsTo}
-use Rattle.shape_lags.proofs.Adding.{sums-more, sums-all}
-use Rattle.shape_lags.proofs.lag_sums.Statement.{statement}
-use Rattle.shape_lags.proofs.lag_sums.Tie as tie
+use Rattle.shape_sums.specs.PartialSums.{addedCell, sumsTo}
+use Rattle.shape_sums.proofs.Adding.{sums-more, sums-all}
+use Rattle.shape_sums.proofs.lag_sums.Statement.{statement}
+use Rattle.shape_sums.proofs.lag_sums.Tie as tie
 
 abbrev Inv-loop : tie.InvT-loop
 Inv-loop lines sums₀ n₀ n-end sums n = (length lines - 8 ≤ n) × (n ≤ n-end) × (n-end ≡ length lines) × (sums ≡ sumsTo lines n)

@@ -7,11 +7,11 @@ use lib.Ieee.{Float}
 use lib.ListN.{length, length-set}
 use Rattle.law_rounding.specs.Floats.{_⊕_, _⊗_}
 use Rattle.law_lists.specs.Places.{at}
-use Rattle.shape_lags.specs.PartialSums.{addedCell}
+use Rattle.shape_sums.specs.PartialSums.{addedCell}
 use Rattle.law_lists.proofs.Tab.{is-tab, stored-more}
-use Rattle.shape_lags.proofs.Adding.{added-none, added-here, not-added, added-elsewhere}
-use Rattle.shape_lags.proofs.line_added.Statement.{statement}
-use Rattle.shape_lags.proofs.line_added.Tie as tie
+use Rattle.shape_sums.proofs.Adding.{added-none, added-here, not-added, added-elsewhere}
+use Rattle.shape_sums.proofs.line_added.Statement.{statement}
+use Rattle.shape_sums.proofs.line_added.Tie as tie
 
 abbrev Inv-loop : tie.InvT-loop
 Inv-loop lines n m added₀ k₀ added k = (k ≤ m) × (length added ≡ 9) × ((j : ℕ) → j < 9 → at added j ≡ addedCell added₀ lines n k j)

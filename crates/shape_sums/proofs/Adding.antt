@@ -9,8 +9,8 @@ use lib.Ieee.{Float}
 use lib.ListN.{length}
 use Rattle.law_rounding.specs.Floats.{_⊕_, _⊗_, f0}
 use Rattle.law_lists.specs.Places.{at, tab}
-use Rattle.shape_lags.specs.Autocorrelation.{products, lagSum}
-use Rattle.shape_lags.specs.PartialSums.{addedCell, sumsTo}
+use Rattle.shape_sums.specs.LagSums.{products, lagSum}
+use Rattle.shape_sums.specs.PartialSums.{addedCell, sumsTo}
 use Rattle.law_lists.proofs.Tab.{length-tab, at-tab, is-tab, elsewhere}
 
 module _ (sums xs : List Float) (n : ℕ) where

@@ -1,0 +1,3 @@
+-- What a reader has to believe of the sums of a subband.
+pub mod LagSums
+pub mod PartialSums
