@@ -1,10 +1,8 @@
--- Any two results that a contract allows for one input coincide: the law of `law_results`, cited for each public function of this crate, and with
--- it what is left in the lines that were lent. The logic has one NaN, so of a number that is a NaN the bits are left open.
-use mathlib.Core.List.{List}
-use lib.Ieee.{Float}
-use Rattle.law_results.proofs.Determined.{DeterminedWith, itself}
-use Rattle.lattice_encoder.proofs.band_encoded.Kinds as band-encoded-kinds
-use Rattle.lattice_encoder.proofs.band_encoded.Reads as band-encoded-reads
+-- Any two results that a contract allows for one input coincide: the law of `law_results`, cited for each public function of this crate. The logic has
+-- one NaN, so of a number that is a NaN the bits are left open.
+use Rattle.law_results.proofs.Determined.{Determined, itself}
+use Rattle.lattice_encoder.proofs.line_encoded.Kinds as line-encoded-kinds
+use Rattle.lattice_encoder.proofs.line_encoded.Reads as line-encoded-reads
 
-band-encoded : DeterminedWith 1 band-encoded-kinds.ps band-encoded-kinds.r band-encoded-reads.Post (List Float) (λ κs s. s .1 .1 .1 .0 .now)
-band-encoded κs a x y s t p q = (itself (p .states) (q .states), itself (p .lines) (q .lines))
+line-encoded : Determined 0 line-encoded-kinds.ps line-encoded-kinds.r line-encoded-reads.Post
+line-encoded κs a x y s t p q = itself p q

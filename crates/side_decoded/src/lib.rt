@@ -2,7 +2,7 @@
 // spectrum: each over the lines of its band, with coefficients by its indices. This undoes the encoder's
 // filter. It stands below the doors, which check the frame and the side data first.
 use index_coefficients::eight_coefficients;
-use lattice_decoder::band_decoded;
+use lattice_bands::band_decoded;
 use row_bands::Band;
 use row_bands::Row;
 ghost use mathlib.Core.Path.{_≡_};

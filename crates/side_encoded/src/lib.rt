@@ -1,6 +1,6 @@
 // What encoding does to the lines of a frame: both filters of its side data in the caller's own
 // spectrum, each over the lines of its band. Nothing is checked here: the encode call has done so.
-use lattice_encoder::band_encoded;
+use lattice_bands::band_encoded;
 use row_bands::Band;
 use row_bands::Row;
 use side_data::SideData;

@@ -1,11 +1,11 @@
 -- Each arm runs the stages of the order that it names, and the last, which is 8 or more, all eight.
 use borrow.Author.Needs.{needs}
 use Rattle.law_lists.proofs.Orders.{all-eight}
 use Rattle.lattice_decoder.specs.DecoderLattice.{lineDecoded}
 use Rattle.lattice_lines.proofs.Idle.{order-0}
 use Rattle.lattice_decoder.proofs.Idle.{decoder-idle}
-use Rattle.lattice_decoder.proofs.band_decoded.Statement.{statement}
-use Rattle.lattice_decoder.proofs.band_decoded.Tie as tie
+use Rattle.lattice_bands.proofs.band_decoded.Statement.{statement}
+use Rattle.lattice_bands.proofs.band_decoded.Tie as tie
 
 returns : tie.Need-returns
 returns c =

@@ -1,11 +1,11 @@
 -- Each arm runs the stages of the order that it names, and the last, which is 8 or more, all eight.
 use borrow.Author.Needs.{needs}
 use Rattle.law_lists.proofs.Orders.{all-eight}
 use Rattle.lattice_encoder.specs.EncoderLattice.{lineEncoded}
 use Rattle.lattice_lines.proofs.Idle.{order-0}
 use Rattle.lattice_encoder.proofs.Idle.{encoder-idle}
-use Rattle.lattice_encoder.proofs.band_encoded.Statement.{statement}
-use Rattle.lattice_encoder.proofs.band_encoded.Tie as tie
+use Rattle.lattice_bands.proofs.band_encoded.Statement.{statement}
+use Rattle.lattice_bands.proofs.band_encoded.Tie as tie
 
 returns : tie.Need-returns
 returns c =

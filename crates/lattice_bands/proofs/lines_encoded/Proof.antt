@@ -3,10 +3,10 @@ use Prim.Native.Nat.{_-_}
 use native.Mathlib.Omega.{arith}
 use borrow.Author.Needs.{needs}
 use lib.ListN.{length}
 use Rattle.lattice_encoder.specs.EncoderLattice.{lineEncoded}
 use Rattle.lattice_lines.proofs.BandLines.{Going, begins, one-line, all-lines}
-use Rattle.lattice_encoder.proofs.lines_encoded.Statement.{statement}
-use Rattle.lattice_encoder.proofs.lines_encoded.Tie as tie
+use Rattle.lattice_bands.proofs.lines_encoded.Statement.{statement}
+use Rattle.lattice_bands.proofs.lines_encoded.Tie as tie
 
 abbrev Inv-loop : tie.InvT-loop
 Inv-loop q order lines₀ state₀ i₀ lines state i = Going lineEncoded q order state₀ lines₀ state lines i
