@@ -1,13 +1,17 @@
-"""A model of block files, to be read beside document 02: C-11, which writes and reads them,
-and C-16, which rescues them. There is a function for each rule, in the order of their
-sentences, which stand above it. It is written from the documents and shares nothing with
-the port, nor with the gate's model of block files. What a record costs is document 01's,
-from model.py.
+"""A plain model of block files: writing and reading (C-11) and rescue (C-16).
 
-A rule that bytes can break has a function that says what is wrong of them, or nothing. So
-each refusal comes with its reason, the first that is met in the document's words. "Open"
-marks what the documents leave open and is decided here. Assumes Python 3 with its standard
-library, and block numbers that are not negative.
+It is an oracle: something to hold the proved library's answers against. It was written from
+the customer's documents 01 and 02 alone, and shares nothing with the library or the gate's
+model of the format. Its callers fixed the names, the wording of reasons and report lines, the
+order of the reasons within one refusal, and what single-block calls do with no bytes. The one
+thing it asks of other code is what a record costs in bits, which is document 01's rule and not
+the format's; model.py answers that.
+
+It assumes Python 3, its standard library, model.py beside it, and block numbers that are not
+negative. It knows edition 1 only: of document 02 it models C-11 and C-16 and not C-19.
+
+Words in quotation marks in the comments are the document's. "Decided:" marks a place where the
+document is silent, with the choice made here.
 """
 
 import functools
@@ -15,239 +19,255 @@ from operator import mul
 
 import model
 
-# C-11. "A block has 512 bytes, every u16 little end first:"
+# "A block has 512 bytes"; "from byte 8 records of 24 bytes"; "record count 1 to 20";
+# "sums modulo 65521 over bytes 0 to 507"; "Blocks are numbered from 0, at most 65,536".
 
 BLOCK = 512
+FIRST = 8
+RECORD = 24
+CAPACITY = 20
+SUMMED = 508
+MODULUS = 65521
+MOST_BLOCKS = 65536
+EDITION = 1
 
+# "the sum of (508 - place) times byte": 508 for byte 0, down to 1 for byte 507.
+
+WEIGHTS = [508 - place for place in range(SUMMED)]
+
+# "A record holds duration, bandwidth, filter count, weighting, two orders, sixteen indices, and
+# the bit cost as u16." The record has 24 bytes, so each of the 22 numbers before the cost has
+# one. The limits are document 01's refusals 1, 2, 5, 8, 6 and 7; orders and indices count "used
+# or not". Its refusals 3 and 4 speak of lengths, which a record doesn't have.
+# Decided: two filters on a bandwidth with one band are no fault, since 01 allows the count.
+
+FIELDS = [
+    ("duration", 1),
+    ("bandwidth", 4),
+    ("filters", 2),
+    ("weighting", 1),
+    ("order 0", 8),
+    ("order 1", 8),
+] + [(f"index {place}", 16) for place in range(16)]
+
+# Refusals: "9 short last block or too many blocks; 10 sums wrong; 11 header, number or fill
+# wrong; 12 a record breaks 01's numeric limits or its bits aren't its cost".
+
+EXTENT, SUMS, LAYOUT, CONTENT = 9, 10, 11, 12
+SOUND = (0, "")
+
+
+# "every u16 little end first"
 
 def u16(two_bytes):
-    low, high = two_bytes
-    return low + 256 * high
+    return int.from_bytes(two_bytes, "little")
 
 
 def bytes_of(number):
-    return bytes([number % 256, number // 256])
+    return number.to_bytes(2, "little")
 
 
-# "number (u16), record count 1 to 20 and edition 1 (one byte each), four zeros;"
+# "the last four bytes are two u16 sums": first the plain one, then the weighted one.
 
-CAPACITY = 20
-EDITION = 1
-
-
-def number_of(block):
-    return u16(block[:2])
-
-
-def header_wrong(block):
-    """Apart from the number."""
-    if not 1 <= block[2] <= CAPACITY:
-        return "count"
-    if block[3] != EDITION:
-        return "edition"
-    return "zeros" if any(block[4:8]) else ""
-
-
-# "from byte 8 records of 24 bytes; then zeros;" where the count is right
-
-FIRST = 8
-RECORD = 24
-SUMMED = 508
-
-
-def records_of(block):
-    return block[FIRST : FIRST + RECORD * block[2]]
-
-
-def fill_wrong(block):
-    return "fill" if any(block[FIRST + RECORD * block[2] : SUMMED]) else ""
-
-
-# "the last four bytes are two u16 sums modulo 65521 over bytes 0 to 507, the plain sum and
-# the sum of (508 - place) times byte."
-
-MODULUS = 65521
-WEIGHTS = [508 - place for place in range(SUMMED)]
-
-
-def sums(block):
+def sums_of(block):
     summed = block[:SUMMED]
     return sum(summed) % MODULUS, sum(map(mul, WEIGHTS, summed)) % MODULUS
 
 
-def sums_wrong(block):
-    plain, weighted = sums(block)
-    wrong = ["plain"] if u16(block[508:510]) != plain else []
-    wrong += ["weighted"] if u16(block[510:512]) != weighted else []
-    return " and ".join(wrong)
-
-
 def with_sums(block):
-    plain, weighted = sums(block)
+    plain, weighted = sums_of(block)
     return bytes(block[:SUMMED]) + bytes_of(plain) + bytes_of(weighted)
 
 
+# "number (u16), record count 1 to 20 and edition 1 (one byte each), four zeros; from byte 8
+# records of 24 bytes; then zeros"; then the sums.
+
 def sealed(number, records):
-    """The whole block of these records, 1 to 20."""
-    start = bytes_of(number) + bytes([len(records) // RECORD, EDITION, 0, 0, 0, 0]) + records
-    return with_sums(start + bytes(SUMMED - len(start)))
+    count = len(records) // RECORD
+    header = bytes_of(number) + bytes([count, EDITION]) + bytes(4)
+    return with_sums((header + records).ljust(SUMMED, b"\0"))
 
 
-# "A record holds duration, bandwidth, filter count, weighting, two orders, sixteen indices,
-# and the bit cost as u16." The names are C-12's; the limits are those of document 01's
-# refusals 1, 2, 5, 8, 6 and 7, the last two "used or not".
+# Bytes cut into pieces of one size; the last piece may be shorter.
 
-FIELDS = [("duration", 1), ("bandwidth", 4), ("filters", 2), ("weighting", 1)]
-FIELDS += [(f"order {k}", 8) for k in range(2)] + [(f"index {k}", 16) for k in range(16)]
-
-# "Blocks are numbered from 0, at most 65,536."
-
-MOST_BLOCKS = 65536
+def pieces(whole, size):
+    return (bytes(whole[start:start + size]) for start in range(0, len(whole), size))
 
 
-def parts(bytes_, size):
-    """The last one may be shorter."""
-    return [bytes_[at : at + size] for at in range(0, len(bytes_), size)]
+# One line of a rescue's report. The document says what is reported; the callers fixed the words.
+
+def report_line(entry):
+    kind, *values = entry
+    if kind == "dropped":
+        place, fault = values
+        return f"block {place} dropped {fault}\n"
+    if kind == "renumbered":
+        place, old, new = values
+        return f"block {place} renumbered {old} to {new}\n"
+    if kind == "stray":
+        [count] = values
+        return f"{count} stray bytes\n"
+    raise ValueError(f"no such report entry: {entry}")
 
 
 class Format:
-    """What reads, writes or rescues a block is lent bytes, of which it takes no more than a
-    block's. It gives the refusal, or 0, its reason, and what it makes."""
+    """Block files, with the bit costs taken from the tables in a source folder."""
 
     def __init__(self, source):
         self.tables = model.Tables(source)
-        # The same records come again and again.
-        self.record_wrong = functools.lru_cache(1 << 14)(self.record_wrong)
+        # The same records come again and again, and the verdict hangs on their bytes alone.
+        self.fault_in_record = functools.lru_cache(maxsize=100_000)(self.fault_in_record)
+
+    # Records
 
     def cost(self, record):
-        filters, weighting, order_0, order_1, *indices = record[2:22]
-        return model.cost_of(self.tables, weighting, filters, (order_0, order_1), indices)
+        filters, weighting = record[2], record[3]
+        orders = (record[4], record[5])
+        return model.cost_of(self.tables, weighting, filters, orders, list(record[6:22]))
 
-    # "The writer puts 20 records in every block but the last; the reader takes any sound
-    # count. A file of no bytes reads as no records."
+    # "12 a record breaks 01's numeric limits or its bits aren't its cost"
+    # Decided: the fields are looked at in the record's order, the bits last; a record cut short
+    # (only a writer can meet one) is called that whatever is in the part that is there.
 
-    def write_file(self, records):
-        return self.until_refused(self.write_block, parts(records, CAPACITY * RECORD))
+    def fault_in_record(self, record):
+        if len(record) < RECORD:
+            return CONTENT, "cut short"
+        for (name, largest), value in zip(FIELDS, record):
+            if value > largest:
+                return CONTENT, name
+        if u16(record[22:24]) != self.cost(record):
+            return CONTENT, "bits"
+        return SOUND
 
-    def read_file(self, file):
-        return self.until_refused(self.read_block, parts(file, BLOCK))
+    # Decided: of several faulty records the first one gives the reason.
 
-    # "A refusal keeps the records of earlier blocks and gives none of its own block."
+    def fault_in_records(self, records):
+        for record in pieces(records, RECORD):
+            fault = self.fault_in_record(record)
+            if fault != SOUND:
+                return fault
+        return SOUND
 
-    @staticmethod
-    def until_refused(one, lent):
-        """What stands, and the refusal with its block's number, or None."""
-        stands = []
-        for number, part in enumerate(lent):
-            refusal, _, made = one(number, part)
-            if refusal:
-                return b"".join(stands), (refusal, number)
-            stands.append(made)
-        return b"".join(stands), None
-
-    # "Refusals: 9 short last block or too many blocks; [..] in this order, block by block,
-    # and the first faulty block stands." Open: a block that is both is short; no bytes are
-    # no block, whatever its number, so a file may end after 65,536.
-
-    def read_block(self, number, lent):
-        block = lent[:BLOCK]
-        if not block:
-            return 0, "", b""
-        if len(block) < BLOCK:
-            return 9, "short", b""
-        if number >= MOST_BLOCKS:
-            return 9, "number", b""
-        refusal, reason = self.fault_in(block, number)
-        return refusal, reason, b"" if refusal else records_of(block)
-
-    # "10 sums wrong; 11 header, number or fill wrong; 12 a record breaks 01's numeric limits
-    # or its bits aren't its cost; in this order"
+    # The faults of a whole block but 9: sums, then "header, number or fill", then records, "in
+    # this order". Without a number it is the rescue's question: "its sums, header apart from its
+    # number, fill and records".
+    # Decided: a stored sum must be the number below 65521 itself; 65521 doesn't stand for 0.
 
     def fault_in(self, block, number=None):
-        """Of 512 bytes. Without a number, they may have any (C-16)."""
-        if wrong := sums_wrong(block):
-            return 10, wrong
-        if wrong := header_wrong(block):
-            return 11, wrong
-        if number is not None and number != number_of(block):
-            return 11, "number"
-        if wrong := fill_wrong(block):
-            return 11, wrong
-        return self.records_fault(records_of(block))
+        plain, weighted = sums_of(block)
+        wrong = []
+        if u16(block[508:510]) != plain:
+            wrong.append("plain")
+        if u16(block[510:512]) != weighted:
+            wrong.append("weighted")
+        if wrong:
+            return SUMS, " and ".join(wrong)
 
-    def records_fault(self, records):
-        wrong = next(filter(None, map(self.record_wrong, parts(records, RECORD))), "")
-        return (12, wrong) if wrong else (0, "")
+        count = block[2]
+        fill = FIRST + RECORD * count
+        if not 1 <= count <= CAPACITY:
+            return LAYOUT, "count"
+        if block[3] != EDITION:
+            return LAYOUT, "edition"
+        if any(block[4:8]):
+            return LAYOUT, "zeros"
+        if number is not None and u16(block[0:2]) != number:
+            return LAYOUT, "number"
+        if any(block[fill:SUMMED]):
+            return LAYOUT, "fill"
 
-    # Open: what is to be written may end within a record, which then lacks numbers. Reasons
-    # are looked for in the order of the fields.
+        return self.fault_in_records(block[FIRST:fill])
 
-    def record_wrong(self, record):
-        if len(record) < RECORD:
-            return "cut short"
-        for (name, most), found in zip(FIELDS, record):
-            if found > most:
-                return name
-        return "bits" if u16(record[22:]) != self.cost(record) else ""
+    # One block. No bytes are no block, so reading and writing them succeeds with nothing, and
+    # bytes past one block are left alone (both fixed by the callers). A number over the last one
+    # is "too many blocks".
 
-    # "The writer writes nothing of a refused block." Open: no records make no block, whatever
-    # its number.
+    def read_block(self, number, lent):
+        block = bytes(lent[:BLOCK])
+        if len(block) == 0:
+            return 0, "", b""
+        if len(block) < BLOCK:
+            return EXTENT, "short", b""
+        if number >= MOST_BLOCKS:
+            return EXTENT, "number", b""
+        refusal, reason = self.fault_in(block, number)
+        if refusal:
+            return refusal, reason, b""
+        return 0, "", block[FIRST:FIRST + RECORD * block[2]]
 
     def write_block(self, number, lent):
-        records = lent[: CAPACITY * RECORD]
-        if not records:
+        records = bytes(lent[:RECORD * CAPACITY])
+        if len(records) == 0:
             return 0, "", b""
         if number >= MOST_BLOCKS:
-            return 9, "number", b""
-        refusal, reason = self.records_fault(records)
-        return refusal, reason, b"" if refusal else sealed(number, records)
+            return EXTENT, "number", b""
+        refusal, reason = self.fault_in_records(records)
+        if refusal:
+            return refusal, reason, b""
+        return 0, "", sealed(number, records)
 
-    # C-16. "The tool keeps a block exactly if its sums, header apart from its number, fill
-    # and records are right. Kept blocks [..] are renumbered from 0 and get fresh sums; their
-    # records stay byte for byte." Open: a number that is too high refuses a block that is to
-    # be kept, and no other; no bytes are a block that is short.
+    # A kept block is "renumbered" and gets "fresh sums"; all between them stays, so the records
+    # stay "byte for byte". Only a block to be kept can be one too many.
 
     def rescue_block(self, number, lent):
-        """Gives the old number too, or 0."""
-        block = lent[:BLOCK]
-        refusal, reason = self.fault_in(block) if len(block) == BLOCK else (9, "short")
-        if not refusal and number >= MOST_BLOCKS:
-            refusal, reason = 9, "number"
+        block = bytes(lent[:BLOCK])
+        if len(block) < BLOCK:
+            return EXTENT, "short", b"", 0
+        refusal, reason = self.fault_in(block)
         if refusal:
             return refusal, reason, b"", 0
-        return 0, "", with_sums(bytes_of(number) + block[2:]), number_of(block)
+        if number >= MOST_BLOCKS:
+            return EXTENT, "number", b"", 0
+        return 0, "", with_sums(bytes_of(number) + block[2:]), u16(block[0:2])
 
-    # "Kept blocks stand in their old order [..] It reports each dropped block by place and
-    # first fault, each renumbered block by old and new number, and the number of stray bytes
-    # at the end. [..] more than 65,536 blocks to keep still refuses the call with 9": then
-    # there is no result. Open: entries have the order of the file, and each block its place.
+    # Files. "block by block, and the first faulty block stands": so a fault in an early block is
+    # the answer even for a file that is also too long. "A refusal keeps the records of earlier
+    # blocks and gives none of its own block." "A file of no bytes reads as no records."
+
+    def read_file(self, file):
+        records = []
+        for number, block in enumerate(pieces(file, BLOCK)):
+            refusal, _, found = self.read_block(number, block)
+            if refusal:
+                return b"".join(records), (refusal, number)
+            records.append(found)
+        return b"".join(records), None
+
+    # "The writer puts 20 records in every block but the last"; "The writer writes nothing of a
+    # refused block."
+    # Decided: the blocks before the refused one stay written, as the reader's records do.
+
+    def write_file(self, records):
+        blocks = []
+        for number, part in enumerate(pieces(records, RECORD * CAPACITY)):
+            refusal, _, block = self.write_block(number, part)
+            if refusal:
+                return b"".join(blocks), (refusal, number)
+            blocks.append(block)
+        return b"".join(blocks), None
+
+    # "Kept blocks stand in their old order, are renumbered from 0". "It reports each dropped
+    # block by place and first fault, each renumbered block by old and new number, and the number
+    # of stray bytes at the end." "More than 65,536 blocks to keep still refuses the call with 9,
+    # before anything is written": then there is no file and no report.
+    # Decided: a place is the block's count from 0 in the damaged file, which may pass 65,535; a
+    # fault is the refusal's number, 10 to 12; a kept block whose number was right already, and
+    # an end without stray bytes, are not reported, since a sound file has an empty report.
 
     def rescue_file(self, file):
         kept, report = [], []
-        for place, block in enumerate(parts(file, BLOCK)):
-            new = len(kept)
-            refusal, reason, made, old = self.rescue_block(new, block)
-            if reason == "short":
+        for place, block in enumerate(pieces(file, BLOCK)):
+            if len(block) < BLOCK:
                 report.append(("stray", len(block)))
-            elif refusal == 9:
+                break
+            new = len(kept)
+            refusal, _, mended, old = self.rescue_block(new, block)
+            if refusal == EXTENT:
                 return None
-            elif refusal:
+            if refusal:
                 report.append(("dropped", place, refusal))
-            else:
-                kept.append(made)
-                if old != new:
-                    report.append(("renumbered", place, old, new))
+                continue
+            kept.append(mended)
+            if old != new:
+                report.append(("renumbered", place, old, new))
         return b"".join(kept), report
-
-
-# Open: the report's words, which are README.md's.
-
-LINES = {
-    "dropped": "block {} dropped {}\n",
-    "renumbered": "block {} renumbered {} to {}\n",
-    "stray": "{} stray bytes\n",
-}
-
-
-def report_line(entry):
-    return LINES[entry[0]].format(*entry[1:])
