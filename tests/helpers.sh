@@ -90,6 +90,20 @@ unread() { # WORD INPUT
     fi
 }
 
+# Sets $memory to what a program may have in a test of how much it holds, in KiB: 12 MiB more than the program
+# $1 needs to answer an input of no bytes. By itself that is 16 or 20 MiB; an emulator has its own part.
+little_memory() { # PROGRAM
+    memory=4096
+    until sh -c 'ulimit -v "$1" && exec "$2" </dev/null >/dev/null 2>&1' sh $memory "$programs/$1" 2>/dev/null; do
+        memory=$((memory + 4096))
+        [ $memory -lt 4194304 ] || {
+            echo "$suite: $1 does not answer an input of no bytes" >&2
+            exit 1
+        }
+    done
+    memory=$((memory + 12288))
+}
+
 # Last, how many cases passed and how many failed.
 tally() {
     echo "$suite: $passed passed, $failed failed"
