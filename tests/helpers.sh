@@ -90,18 +90,20 @@ unread() { # WORD INPUT
     fi
 }
 
-# Sets $memory to what a program may have in a test of how much it holds, in KiB: 12 MiB more than the program
-# $1 needs to answer an input of no bytes. By itself that is 16 or 20 MiB; an emulator has its own part.
+# Sets $memory to how much a program may have in a test of what it holds, in KiB: 16 MiB, or, where an emulator
+# takes more by itself, the least with which the program $1 answers an input of no bytes, twenty times.
 little_memory() { # PROGRAM
-    memory=4096
-    until sh -c 'ulimit -v "$1" && exec "$2" </dev/null >/dev/null 2>&1' sh $memory "$programs/$1" 2>/dev/null; do
+    memory=16384
+    until twenty sh -c 'ulimit -v "$1" && exec "$2" </dev/null >/dev/null' sh $memory "$programs/$1" 2>/dev/null; do
         memory=$((memory + 4096))
-        [ $memory -lt 4194304 ] || {
-            echo "$suite: $1 does not answer an input of no bytes" >&2
+        [ $memory -lt 1048576 ] || {
+            echo "$suite: $1 does not answer an input of no bytes in 1 GiB" >&2
             exit 1
         }
     done
-    memory=$((memory + 12288))
+}
+twenty() { # COMMAND..
+    for _ in 1 2 3 4 5 6 7 8 9 10 11 12 13 14 15 16 17 18 19 20; do "$@" || return; done
 }
 
 # Last, how many cases passed and how many failed.
