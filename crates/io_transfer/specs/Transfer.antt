@@ -1,15 +1,13 @@
 -- What the programs make of a piece of input: its whole blocks are taken, and the rest waits.
 use mathlib.Core.Path.{_≡_}
 use mathlib.Core.Bool.{true, false}
-use mathlib.Core.List.{List, []}
+use mathlib.Core.List.{List}
 use Prim.Native.Nat.{ℕ, _+_, _*_, _/_, _≤_}
 use lib.ListN.{length, take}
 use Rattle.law_lists.specs.Portions.{portions}
-use Rattle.check_verdicts.specs.Verdicts.{numberOf}
-use Rattle.file_narration.specs.Files.{End, whole, refusedAt, Outcome}
+use Rattle.file_narration.specs.Files.{whole, Outcome}
 use Rattle.io_streams.specs.declared.Read.{Read}
 use Rattle.io_streams.specs.declared.Read.the-variants as read
-use Rattle.text_answers.specs.Wording.{blockRefusalText}
 use Rattle.io_rest.specs.Rest.{wholeBytes, KeepsRest}
 use Rattle.io_blocks.specs.PutBlocks.{sizeOf, blocksOf}
 use Rattle.io_blocks.specs.declared.Way.{Way}
@@ -47,8 +45,3 @@ abbrev pub AnswersRead : Way → Read → Standing → List ℕ → List ℕ →
 AnswersRead way (read.Bytes count) standing found left output result = TakesPiece way (standing .number) (standing .held + count) found left output result
 AnswersRead way read.End standing found left output result = TakesLast way (standing .number) (take (standing .held) found) output result
 AnswersRead way read.Failed standing found left output result = TakesLast way (standing .number) (take (knownBytes way (standing .held)) found) output result
-
--- what is said of an end on standard error
-abbrev pub endText : End → List ℕ
-endText whole = []
-endText (refusedAt block fault) = blockRefusalText (numberOf fault) block

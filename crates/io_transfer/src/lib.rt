@@ -1,28 +1,25 @@
 // What the programs that read and write narrations do alike: standard input is taken block by block to
 // standard output, up to the first block that is refused. It is read in pieces of a fixed size, each of
 // which holds a whole number of blocks, of either kind; what is left of one waits for the next read. What
-// was read before input fails is answered as far as it is whole.
-use io_blocks::Done;
-use io_blocks::Ended;
+// was read before input fails is answered as far as it is whole. What the blocks of a piece become is in
+// io_blocks, and how they end in io_ends.
+//
+// The inner functions have a `requires`: the sizes of the two pieces, a block's number or the one after the
+// last, less than a block held. So `transfer` begins, and so each turn is proved to leave it. That a read
+// stays within its piece is a promise of io_streams.
 use io_blocks::Way;
 use io_blocks::put_blocks;
 use io_blocks::size_of;
+use io_ends::settled;
 use io_rest::keep_rest;
 use io_rest::whole_bytes;
 use io_streams::Read;
 use io_streams::read_after;
-use io_streams::refuse;
-use io_streams::write;
-use text_answers::put_block_refusal;
 ghost use mathlib.Core.Path.{_≡_};
-ghost use mathlib.Core.Bool.{true};
 ghost use Prim.Native.Nat.{_≤_, _<_};
 ghost use lib.ListN.{length, take};
 ghost use Rattle.io_streams.specs.Reads.{Within};
-ghost use Rattle.text_put.specs.Text.{Puts};
-ghost use Rattle.file_narration.specs.Files.{whole};
-ghost use Rattle.io_blocks.specs.PutBlocks.{endOf};
-ghost use Rattle.io_transfer.specs.Transfer.{endText, knownBytes, TakesPiece, TakesLast, AnswersRead};
+ghost use Rattle.io_transfer.specs.Transfer.{knownBytes, TakesPiece, TakesLast, AnswersRead};
 
 // Where a program stands between two reads: the next block's number, how many bytes of a block not yet
 // whole are held at the start of the piece, and whether there is more to do.
@@ -40,44 +37,6 @@ fn known(way: Way, held: usize) -> usize
     match way {
         Way::ToRecords => 0,
         Way::ToBlocks => 24 * (held / 24),
-    }
-}
-
-// The line of how the blocks of a piece end: of a refusal, and nothing where there is none.
-fn put_end(put: Done, line: &mut [u8]) -> usize
-    ensures { λ r. ⌜ Puts (endText (endOf (put .ended) (put .next))) (now (line .entry)) 0 r (now (line .exit)) ⌝ }
-{
-    let next = put.next;
-    let ended = put.ended;
-    match ended {
-        Ended::Whole => 0,
-        Ended::Refused(why) => put_block_refusal(why.number(), next, line, 0),
-    }
-}
-
-// Tells a refusal on standard error, and to the launcher.
-fn tell(put: Done) {
-    let mut line = [0u8; 64];
-    let count = put_end(put, &mut line);
-    refuse(&line[..count]);
-}
-
-// Writes what was put, and then tells the refusal, if there is one. Answers whether to go on.
-fn settled(put: Done, out: &[u8]) -> bool
-    requires { ⌜ put .count ≤ length (now out) ⌝ }
-    ensures { λ r. ⌜ (r ≡ true → endOf (put .ended) (put .next) ≡ whole) ⌝ }
-{
-    let count = put.count;
-    let is_written = write(&out[..count]);
-    let ended = put.ended;
-    match ended {
-        Ended::Whole => is_written,
-        Ended::Refused(_) => {
-            if is_written {
-                tell(put);
-            }
-            false
-        }
     }
 }
 

@@ -7,8 +7,8 @@ use borrow.Author.Needs.{needs}
 use Rattle.io.proofs.Counting.{front}
 use Rattle.io_blocks.specs.PutBlocks.{endOf}
 use Rattle.io_blocks.specs.declared.Ended.{Ended}
-use Rattle.io_transfer.proofs.settled.Statement.{statement}
-use Rattle.io_transfer.proofs.settled.Tie as tie
+use Rattle.io_ends.proofs.settled.Statement.{statement}
+use Rattle.io_ends.proofs.settled.Tie as tie
 
 slice-aggregate-write : tie.Need-slice-aggregate-write
 slice-aggregate-write c =

@@ -8,10 +8,10 @@ use Rattle.block_check.specs.Told.{blockFault}
 use Rattle.text_put.proofs.Texts.{puts-same, puts-none}
 use Rattle.text_answers.specs.Wording.{blockRefusalText}
 use Rattle.io_blocks.specs.PutBlocks.{endOf}
-use Rattle.io_transfer.specs.Transfer.{endText}
+use Rattle.io_ends.specs.EndText.{endText}
 use Rattle.io_blocks.specs.declared.Ended.{Ended}
-use Rattle.io_transfer.proofs.put_end.Statement.{statement}
-use Rattle.io_transfer.proofs.put_end.Tie as tie
+use Rattle.io_ends.proofs.put_end.Statement.{statement}
+use Rattle.io_ends.proofs.put_end.Tie as tie
 
 returns : tie.Need-returns
 returns c =

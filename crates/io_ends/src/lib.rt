@@ -1,0 +1,57 @@
+// How the blocks of a piece end: what was put of them is written, and a refusal is told, by one line on
+// standard error and to the launcher. That anything is written or told is not proved, only what the line
+// says and that nothing goes on after a refusal.
+//
+// `settled` has a `requires`: that no more was put than the output has. Its callers have it from the
+// promise of put_blocks, whose answer they give it with the output.
+use io_blocks::Done;
+use io_blocks::Ended;
+use io_streams::refuse;
+use io_streams::write;
+use text_answers::put_block_refusal;
+ghost use mathlib.Core.Path.{_≡_};
+ghost use mathlib.Core.Bool.{true};
+ghost use Prim.Native.Nat.{_≤_};
+ghost use lib.ListN.{length};
+ghost use Rattle.text_put.specs.Text.{Puts};
+ghost use Rattle.file_narration.specs.Files.{whole};
+ghost use Rattle.io_blocks.specs.PutBlocks.{endOf};
+ghost use Rattle.io_ends.specs.EndText.{endText};
+
+// The line of how the blocks of a piece end: of a refusal, and nothing where there is none.
+fn put_end(put: Done, line: &mut [u8]) -> usize
+    ensures { λ r. ⌜ Puts (endText (endOf (put .ended) (put .next))) (now (line .entry)) 0 r (now (line .exit)) ⌝ }
+{
+    let next = put.next;
+    let ended = put.ended;
+    match ended {
+        Ended::Whole => 0,
+        Ended::Refused(why) => put_block_refusal(why.number(), next, line, 0),
+    }
+}
+
+// Tells a refusal on standard error, and to the launcher.
+fn tell(put: Done) {
+    let mut line = [0u8; 64];
+    let count = put_end(put, &mut line);
+    refuse(&line[..count]);
+}
+
+// Writes what was put, and then tells the refusal, if there is one. Answers whether to go on.
+pub fn settled(put: Done, out: &[u8]) -> bool
+    requires { ⌜ put .count ≤ length (now out) ⌝ }
+    ensures { λ r. ⌜ (r ≡ true → endOf (put .ended) (put .next) ≡ whole) ⌝ }
+{
+    let count = put.count;
+    let is_written = write(&out[..count]);
+    let ended = put.ended;
+    match ended {
+        Ended::Whole => is_written,
+        Ended::Refused(_) => {
+            if is_written {
+                tell(put);
+            }
+            false
+        }
+    }
+}
