@@ -1,5 +1,6 @@
 // The first reading of a damaged file, in pieces of a fixed size: it counts the blocks to keep, so that
 // nothing is written where there are too many.
+use file_kept::count_kept;
 use io_progress::Progress;
 use io_progress::erase;
 use io_progress::shown;
@@ -7,7 +8,6 @@ use io_reading::Standing;
 use io_reading::begun;
 use io_reading::ended;
 use io_reading::read_named;
-use io_rescue::count_kept;
 use io_rest::keep_rest;
 use io_streams::Read;
 ghost use mathlib.Core.Path.{_≡_};

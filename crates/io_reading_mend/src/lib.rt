@@ -1,5 +1,6 @@
 // The second reading of a damaged file, in pieces of a fixed size: it writes what the blocks become, and
 // says the report.
+use file_kept::count_kept;
 use io_names::complain_of;
 use io_progress::Progress;
 use io_progress::erase;
@@ -10,7 +11,6 @@ use io_reading::begun;
 use io_reading::ended;
 use io_reading::read_named;
 use io_rescue::Taken;
-use io_rescue::count_kept;
 use io_rescue::rescue_piece;
 use io_rest::keep_rest;
 use io_streams::Read;

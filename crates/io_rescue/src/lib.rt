@@ -1,43 +1,17 @@
 // What the blocks of a piece of a damaged narration become, step by step: the bytes of the file that
-// comes out, and the lines of the report. And how many of them are kept, which is asked first.
+// comes out, and the lines of the report. How many of them are kept is asked before, of file_kept.
+//
+// The inner functions have a `requires`: that there is room, which `rescue_piece` has checked, and that a
+// portion is no longer than a block, as the loop over the portions cuts them.
 use block_rescue::RescueAnswer;
-use block_rescue::check_kept;
 use block_rescue::rescue_block;
 use law_numbers::least;
 use text_put::put;
 use text_report::put_kept;
 use text_report::put_left;
-ghost use mathlib.Core.Path.{_≡_};
 ghost use Prim.Native.Nat.{_≤_};
-ghost use lib.Dec.{ltb};
 ghost use lib.ListN.{length};
-ghost use Rattle.law_lists.specs.Portions.{portions};
-ghost use Rattle.file_rescued.specs.Rescues.{keptOf};
 ghost use Rattle.io_rescue.specs.RescueSteps.{TakesPortion, HasRoom, RescuesPiece};
-
-// How many blocks of some bytes are kept. What is left over of the bytes is no block.
-pub fn count_kept(bytes: &[u8]) -> usize
-    ensures { λ r. ⌜ r ≡ length (keptOf (portions 512 (now (bytes .entry)))) ⌝ }
-{
-    let mut kept = 0usize;
-    let mut from = 0usize;
-    while from < bytes.len() {
-        let end = least(from + 512, bytes.len());
-        let answer = check_kept(&bytes[from..end]);
-        if let RescueAnswer::Kept(_) = answer {
-            kept += 1;
-        }
-        from = end;
-    }
-    kept
-}
-
-// More blocks than there are numbers for.
-pub fn are_too_many(kept: u64) -> bool
-    ensures { λ r. ⌜ r ≡ ltb 65536 kept ⌝ }
-{
-    kept > 65536
-}
 
 // How many bytes there are then of what comes out, and of the report; and the number that the next block
 // takes that is kept.

@@ -5,6 +5,7 @@
 // The damaged file is read twice: first its blocks to keep are counted, so that nothing is written where
 // there are too many. Assumes of the launcher (the script `tns`) what io_streams says, and that it gives
 // two arguments.
+use file_kept::are_too_many;
 use io_names::complain_of;
 use io_names::failed_at;
 use io_names::is_free;
@@ -17,7 +18,6 @@ use io_reading::Standing;
 use io_reading::is_same;
 use io_reading_count::count_pass;
 use io_reading_mend::mend_pass;
-use io_rescue::are_too_many;
 use io_streams::failed;
 use io_streams::refuse;
 

@@ -15,8 +15,8 @@ use Rattle.block_rescue.specs.Rescue.{keptVerdict, rescueSays}
 use Rattle.file_rescued.specs.Rescues.{keptOf}
 use Rattle.file_rescued.proofs.KeptBlocks.{kept-first, left-first}
 use Rattle.file_rescued.proofs.Accounted.{none-kept}
-use Rattle.io_rescue.proofs.count_kept.Statement.{statement}
-use Rattle.io_rescue.proofs.count_kept.Tie as tie
+use Rattle.file_kept.proofs.count_kept.Statement.{statement}
+use Rattle.file_kept.proofs.count_kept.Tie as tie
 
 -- how many are kept from a place on
 abbrev keptFrom : ℕ → List ℕ → ℕ

@@ -1,0 +1,34 @@
+// How many blocks of a damaged narration are kept, and whether there are numbers for so many, which is asked
+// before any of them is written. It demands nothing, and knows nothing of reading and writing.
+use block_rescue::RescueAnswer;
+use block_rescue::check_kept;
+use law_numbers::least;
+ghost use mathlib.Core.Path.{_≡_};
+ghost use lib.Dec.{ltb};
+ghost use lib.ListN.{length};
+ghost use Rattle.law_lists.specs.Portions.{portions};
+ghost use Rattle.file_rescued.specs.Rescues.{keptOf};
+
+// How many blocks of some bytes are kept. What is left over of the bytes is no block.
+pub fn count_kept(bytes: &[u8]) -> usize
+    ensures { λ r. ⌜ r ≡ length (keptOf (portions 512 (now (bytes .entry)))) ⌝ }
+{
+    let mut kept = 0usize;
+    let mut from = 0usize;
+    while from < bytes.len() {
+        let end = least(from + 512, bytes.len());
+        let answer = check_kept(&bytes[from..end]);
+        if let RescueAnswer::Kept(_) = answer {
+            kept += 1;
+        }
+        from = end;
+    }
+    kept
+}
+
+// More blocks than there are numbers for.
+pub fn are_too_many(kept: u64) -> bool
+    ensures { λ r. ⌜ r ≡ ltb 65536 kept ⌝ }
+{
+    kept > 65536
+}
