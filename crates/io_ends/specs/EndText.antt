@@ -3,7 +3,7 @@ use mathlib.Core.List.{List, []}
 use Prim.Native.Nat.{ℕ}
 use Rattle.check_verdicts.specs.Verdicts.{numberOf}
 use Rattle.file_narration.specs.Files.{End, whole, refusedAt}
-use Rattle.text_answers.specs.Wording.{blockRefusalText}
+use Rattle.text_refusal.specs.RefusalText.{blockRefusalText}
 
 -- what is said of an end on standard error
 abbrev pub endText : End → List ℕ

@@ -8,7 +8,7 @@ use io_blocks::Done;
 use io_blocks::Ended;
 use io_streams::refuse;
 use io_streams::write;
-use text_answers::put_block_refusal;
+use text_refusal::put_block_refusal;
 ghost use mathlib.Core.Path.{_≡_};
 ghost use mathlib.Core.Bool.{true};
 ghost use Prim.Native.Nat.{_≤_};

@@ -18,7 +18,3 @@ sayingText (costs verdict) = answerText verdict
 -- a frame's line
 abbrev pub lineText : ℕ → Line → List ℕ
 lineText frame line = ascii "frame " ++ decimal frame ++ ascii ": " ++ sayingText line ++ ascii "\n"
-
--- Request C-11 by the programs: a refusal is one line, with its block
-abbrev pub blockRefusalText : ℕ → ℕ → List ℕ
-blockRefusalText refusal block = answerText (refused (numbered refusal)) ++ ascii " at block " ++ decimal block ++ ascii "\n"

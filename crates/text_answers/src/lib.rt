@@ -1,4 +1,5 @@
-// The text of a frame's line, as the bits program writes it, and that of a refused block.
+// The text of a frame's line, as the bits program writes it. It demands nothing: what there is no room for
+// is left out, as text_put does. text_refusal says the number of a refused block in the same words.
 use check_refusals::Refusal;
 use cost_bytes::BytesAnswer;
 use cost_call::CostAnswer;
@@ -9,9 +10,10 @@ ghost use Rattle.check_refusals.specs.Refusals.{says};
 ghost use Rattle.cost_call.specs.Cost.{costSays};
 ghost use Rattle.cost_bytes.specs.SideBytes.{lineOf};
 ghost use Rattle.text_put.specs.Text.{Puts};
-ghost use Rattle.text_answers.specs.Wording.{answerText, sayingText, lineText, blockRefusalText};
+ghost use Rattle.text_answers.specs.Wording.{answerText, sayingText, lineText};
 
-fn put_number(number: u8, out: &mut [u8], at: usize) -> usize
+// A refusal, by its number alone.
+pub fn put_number(number: u8, out: &mut [u8], at: usize) -> usize
     ensures { λ r. ⌜ Puts (answerText (refused (numbered number))) (now (out .entry)) at r (now (out .exit)) ⌝ }
 {
     let named = put(b"refused ", out, at);
@@ -69,14 +71,4 @@ pub fn put_line(frame: u64, bytes: &[u8], out: &mut [u8], at: usize) -> usize
     let begun = put(b": ", out, numbered);
     let said = put_saying(bytes, out, begun);
     put(b"\n", out, said)
-}
-
-// The line of a block that is refused, with its place in the file.
-pub fn put_block_refusal(refusal: u8, block: u64, out: &mut [u8], at: usize) -> usize
-    ensures { λ r. ⌜ Puts (blockRefusalText refusal block) (now (out .entry)) at r (now (out .exit)) ⌝ }
-{
-    let numbered = put_number(refusal, out, at);
-    let named = put(b" at block ", out, numbered);
-    let placed = put_decimal(block, out, named);
-    put(b"\n", out, placed)
 }

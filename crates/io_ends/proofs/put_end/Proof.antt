@@ -6,7 +6,7 @@ use borrow.Author.Needs.{needs}
 use Rattle.check_verdicts.specs.Verdicts.{numberOf}
 use Rattle.block_check.specs.Told.{blockFault}
 use Rattle.text_put.proofs.Texts.{puts-same, puts-none}
-use Rattle.text_answers.specs.Wording.{blockRefusalText}
+use Rattle.text_refusal.specs.RefusalText.{blockRefusalText}
 use Rattle.io_blocks.specs.PutBlocks.{endOf}
 use Rattle.io_ends.specs.EndText.{endText}
 use Rattle.io_blocks.specs.declared.Ended.{Ended}

@@ -4,10 +4,10 @@ use native.Mathlib.Omega.{arith}
 use Rattle.text_put.specs.Text.{ascii, decimal}
 use Rattle.text_put.proofs.Texts.{puts-on}
 use Rattle.check_verdicts.specs.Verdicts.{numbered, refused}
 use Rattle.text_answers.specs.Wording.{answerText}
 use borrow.Author.Needs.{needs}
-use Rattle.text_answers.proofs.put_block_refusal.Statement.{statement}
-use Rattle.text_answers.proofs.put_block_refusal.Tie as tie
+use Rattle.text_refusal.proofs.put_block_refusal.Statement.{statement}
+use Rattle.text_refusal.proofs.put_block_refusal.Tie as tie
 
 returns : tie.Need-returns
 returns c =
