@@ -21,7 +21,7 @@ use Rattle.check_frame.proofs.Frames.{accepted-row, same-result}
 use Rattle.lattice_encoder.specs.EncoderLattice.{lineEncoded}
 use Rattle.lattice_rows.proofs.OutsideBands as calls
 use Rattle.shape_lags.specs.Autocorrelation.{autocorrelation}
-use Rattle.shape_frame.specs.Analysis.{filterRecord, reflectionsOf}
+use Rattle.shape_filter.specs.Analysis.{filterRecord, reflectionsOf}
 use Rattle.side_data.specs.declared.SideData.{SideData}
 use Rattle.side_encoded.specs.SideFilters.{filtersIn, filteredBy}
 use Rattle.shape_frame.specs.FrameSide.{filterOf, secondOf, sideOf}

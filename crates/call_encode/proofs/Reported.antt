@@ -19,7 +19,7 @@ use Rattle.index_choice.proofs.Indices.{index-at-most}
 use Rattle.row_durations.specs.Durations.{durationOf, weightingOf, numbersOf, DurationNumbers}
 use Rattle.row_bands.specs.declared.Band.{Band}
 use Rattle.row_bands.specs.declared.Row.{Row}
-use Rattle.shape_frame.specs.Analysis.{reflectionsOf}
+use Rattle.shape_filter.specs.Analysis.{reflectionsOf}
 use Rattle.side_quantized.specs.Quantized.{quantizedOf, absent}
 use Rattle.shape_frame.specs.FrameSide.{hasSecond, filterOf, secondOf, sideOf}
 use Rattle.call_encode.specs.Encoder.{weightingIn}

@@ -23,7 +23,7 @@ use Rattle.shape_lags.specs.Autocorrelation.{normalizedLag, autocorrelation}
 use Rattle.shape_recursion.specs.Recursion.{crossed, reflection, nextRow, stepped, unpredicted, predicted}
 use Rattle.shape_gain.specs.Gain.{gainOf, isOn, dampingOf, gainRecord}
 use Rattle.shape_reflections.specs.Reflections.{powerFrom, power, damped, rowBelow, rowAt, reflections}
-use Rattle.shape_frame.specs.Analysis.{filterRecord, reflectionsOf}
+use Rattle.shape_filter.specs.Analysis.{filterRecord, reflectionsOf}
 use Rattle.side_quantized.specs.Quantized.{quantizedOf, absent}
 use Rattle.lattice_lines.specs.Lattice.{linesBy, statesBy}
 use Rattle.lattice_encoder.specs.EncoderLattice.{stageUp, stagesTo, lineEncoded}

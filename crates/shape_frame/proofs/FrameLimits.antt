@@ -1,14 +1,11 @@
 -- What the encoder reports is within the limits: orders at most 8, eight indices at most 16 for each filter.
-use mathlib.Core.Path.{_≡_, refl}
 use mathlib.Core.Bool.{Bool, true, false, cond}
 use mathlib.Core.List.{List}
 use Prim.Native.Nat.{ℕ, _≤_}
 use native.Mathlib.Omega.{arith}
 use lib.Ieee.{Float}
-use lib.ListN.{length}
-use Rattle.shape_frame.specs.Analysis.{reflectionsOf, filterRecord}
-use Rattle.shape_reflections.specs.Reflections.{reflections}
-use Rattle.law_lists.proofs.Tab.{length-tab}
+use Rattle.shape_filter.specs.Analysis.{reflectionsOf}
+use Rattle.shape_filter.proofs.FilterReflections.{eight-reflections}
 use Rattle.row_bands.specs.declared.Band.{Band}
 use Rattle.row_bands.specs.declared.Row.{Row}
 use Rattle.shape_frame.specs.FrameSide.{filterOf, secondOf, hasSecond, sideOf}
@@ -16,19 +13,6 @@ use Rattle.side_quantized.specs.Within.{Within8}
 use Rattle.side_data.specs.Limits.{Reported}
 use Rattle.side_quantized.proofs.Within.{quantized-within, absent-within}
 use Rattle.side_quantized.specs.declared.Quantized.{Quantized}
-
-either-length : (on : Bool) (xs ys : List Float) (n : ℕ) → length xs ≡ n → length ys ≡ n → length (cond on xs ys) ≡ n
-either-length true xs ys n p q = p
-either-length false xs ys n p q = q
-
-eight-of-row : (row : List Float) → length (reflections row) ≡ 8
-unfolding reflections
-eight-of-row row = length-tab _ 8
-
--- eight reflection coefficients
-eight-reflections : (b : Band) (lines : List Float) (flag : Bool) (weighting : ℕ) → length (reflectionsOf b lines flag weighting) ≡ 8
-unfolding reflectionsOf
-eight-reflections b lines flag weighting = either-length (filterRecord b lines flag weighting .on) _ _ 8 (eight-of-row _) refl
 
 pub filter-within : (b : Band) (lines : List Float) (flag : Bool) (weighting : ℕ) → Within8 (filterOf b lines flag weighting)
 unfolding filterOf

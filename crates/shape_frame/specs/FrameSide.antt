@@ -10,8 +10,8 @@ use Rattle.side_quantized.specs.Quantized.{quantizedOf, absent}
 use Rattle.side_data.specs.Side.{bitsOf}
 use Rattle.side_quantized.specs.declared.Quantized.{Quantized}
 use Rattle.side_data.specs.declared.SideData.{SideData}
-use Rattle.shape_frame.specs.Analysis.{reflectionsOf}
-use Rattle.shape_frame.specs.declared.frame.Found.{Found}
+use Rattle.shape_filter.specs.Analysis.{reflectionsOf}
+use Rattle.shape_frame.specs.declared.Found.{Found}
 
 -- the row has a second band
 abbrev pub hasSecond : Row → Bool

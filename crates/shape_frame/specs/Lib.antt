@@ -1,3 +1,2 @@
--- What a reader has to believe of the analysis: one filter, over its three steps, and a frame.
-pub mod Analysis
+-- What a reader has to believe of the analysis of a frame.
 pub mod FrameSide

@@ -1,44 +1,96 @@
-// The analysis. Here that of one filter: from the lines of a band to the record of gain, damping and
-// on/off, and to eight reflection coefficients, everything in E's order of float operations. In
-// `frame` that of a frame, to its side data.
-mod frame;
-
-pub use frame::Found;
-pub use frame::analyse_frame;
+// The analysis of a frame: a filter for each band of its row, analysed by shape_filter and quantized, and
+// what the side data costs. It assumes a frame that the encode call has checked: the row is one of the
+// table's, and its lines are there.
+use cost_filter::filter_bits;
 use row_bands::Band;
-use shape_gain::FilterGain;
-use shape_gain::gain_record;
-use shape_lags::autocorrelated;
-use shape_recursion::predict;
-use shape_reflections::damped_row;
-use shape_reflections::reflected_row;
+use row_bands::Row;
+use shape_filter::analyse;
+use side_data::SideData;
+use side_quantized::Quantized;
+use side_quantized::none;
+use side_quantized::quantize_all;
 ghost use mathlib.Core.Path.{_≡_};
 ghost use lib.ListN.{length};
-ghost use Rattle.shape_lags.specs.LongBands.{Long};
-ghost use Rattle.shape_frame.specs.Analysis.{analysedOf};
+ghost use Rattle.shape_lags.specs.LongBands.{Long, LongRow};
+ghost use Rattle.side_data.specs.Side.{bitsOf};
+ghost use Rattle.side_data.specs.Limits.{Reported};
+ghost use Rattle.shape_frame.specs.FrameSide.{countOf, filterOf, secondOf, sideOf, frameFound};
 
-// What the analysis gives: the record, and eight reflection coefficients.
-pub struct Analysed {
-    pub gain: FilterGain,
-    pub reflections: [f32; 8],
+// What the analysis finds in a frame: its side data, and their bits.
+pub struct Found {
+    pub bits: u16,
+    pub side: SideData,
 }
 
-// The analysis of a band, whose subbands have the lines that the lags require: those of a checked frame
-// do. `flag` is the near-Nyquist flag.
-pub fn analyse(lines: &[f32], band: Band, flag: bool, weighting: u8) -> Analysed
+// The filter of a band.
+fn filter_of(lines: &[f32], band: Band, flag: bool, weighting: u8) -> Quantized
     requires { ⌜ Long band (length (now lines)) ⌝ }
-    ensures { λ r. ⌜ r ≡ analysedOf band (now (lines .entry)) flag weighting ⌝ }
+    ensures { λ r. ⌜ r ≡ filterOf band (now (lines .entry)) flag weighting ⌝ }
 {
-    let r = autocorrelated(lines, band);
-    let p = predict(r);
-    let gain = gain_record(r[0], p.error, flag, weighting);
-    if gain.on {
-        let row = p.row;
-        let reflections = reflected_row(damped_row(row, gain.damping));
-        return Analysed { gain, reflections };
+    let found = analyse(lines, band, flag, weighting);
+    if found.gain.on {
+        let reflections = found.reflections;
+        return quantize_all(reflections);
     }
-    Analysed {
-        gain,
-        reflections: [0.0; 8],
+    none()
+}
+
+// The filter of the second band, or of none.
+fn second_of(lines: &[f32], row: Row, flag: bool, weighting: u8) -> Quantized
+    requires { ⌜ LongRow row (length (now lines)) ⌝ }
+    ensures { λ r. ⌜ r ≡ secondOf row (now (lines .entry)) flag weighting ⌝ }
+{
+    if row.second.stop == 0 {
+        return none();
     }
+    filter_of(lines, row.second, flag, weighting)
+}
+
+fn count_of(row: Row) -> u8
+    ensures { λ r. ⌜ r ≡ countOf row ⌝ }
+{
+    if row.second.stop == 0 { 1 } else { 2 }
+}
+
+// The side data of a frame: a filter for each band of its row.
+fn side_of(lines: &[f32], row: Row, flag: bool, weighting: u8) -> SideData
+    requires { ⌜ LongRow row (length (now lines)) ⌝ }
+    ensures { λ r. ⌜ r ≡ sideOf row (now (lines .entry)) flag weighting ⌝ }
+{
+    let first = filter_of(lines, row.first, flag, weighting);
+    let second = second_of(lines, row, flag, weighting);
+    let filters = count_of(row);
+    SideData {
+        weighting,
+        filters,
+        first,
+        second,
+    }
+}
+
+// The bits of one filter or of two, each rounded up by itself.
+fn side_bits(side: SideData) -> u16
+    requires { ⌜ Reported side ⌝ }
+    ensures { λ r. ⌜ r ≡ bitsOf side ⌝ }
+{
+    let first = side.first;
+    let i = first.indices;
+    let bits = filter_bits(side.weighting, first.order, &i);
+    if side.filters == 1 {
+        return bits;
+    }
+    let second = side.second;
+    let j = second.indices;
+    bits + filter_bits(side.weighting, second.order, &j)
+}
+
+// The side data of a frame, and their bits. The `requires` is what the encode call has checked: the row
+// is one of the table's, and its lines are there. `flag` is the near-Nyquist flag.
+pub fn analyse_frame(lines: &[f32], row: Row, flag: bool, weighting: u8) -> Found
+    requires { ⌜ LongRow row (length (now lines)) ⌝ }
+    ensures { λ r. ⌜ r ≡ frameFound row (now (lines .entry)) flag weighting ⌝ }
+{
+    let side = side_of(lines, row, flag, weighting);
+    let bits = side_bits(side);
+    Found { bits, side }
 }

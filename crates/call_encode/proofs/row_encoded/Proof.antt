@@ -4,7 +4,7 @@ use borrow.Author.Needs.{needs}
 use Rattle.check_verdicts.specs.Verdicts.{accepted}
 use Rattle.side_data.specs.declared.SideData.{SideData}
 use Rattle.side_encoded.specs.SideFilters.{filteredBy}
-use Rattle.shape_frame.specs.declared.frame.Found.{Found}
+use Rattle.shape_frame.specs.declared.Found.{Found}
 use Rattle.side_data.specs.Limits.{Reported}
 use Rattle.shape_frame.proofs.FrameLimits.{side-reported}
 use Rattle.call_encode.proofs.row_encoded.Statement.{statement}

@@ -1,7 +1,7 @@
 -- A row has a second band or none.
 use borrow.Author.Tests.{eq-eqb, ne-eqb}
-use Rattle.shape_frame.proofs.frame.count_of.Statement.{statement}
-use Rattle.shape_frame.proofs.frame.count_of.Tie as tie
+use Rattle.shape_frame.proofs.count_of.Statement.{statement}
+use Rattle.shape_frame.proofs.count_of.Tie as tie
 
 returns : tie.Need-returns
 returns c = rw (eq-eqb (c .before .before .args .row .second .stop) 0 (c .if1 .taken))

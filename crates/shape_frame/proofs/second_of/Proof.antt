@@ -9,8 +9,8 @@ use lib.Ieee.{Float}
 use Rattle.row_bands.specs.declared.Row.{Row}
 use Rattle.side_quantized.specs.Quantized.{absent}
 use Rattle.shape_frame.specs.FrameSide.{filterOf, secondOf}
-use Rattle.shape_frame.proofs.frame.second_of.Statement.{statement}
-use Rattle.shape_frame.proofs.frame.second_of.Tie as tie
+use Rattle.shape_frame.proofs.second_of.Statement.{statement}
+use Rattle.shape_frame.proofs.second_of.Tie as tie
 
 module _ (row : Row) (lines : List Float) (flag : Bool) (weighting : ℕ) where
   no-second : row .second .stop ≡ 0 → absent ≡ secondOf row lines flag weighting

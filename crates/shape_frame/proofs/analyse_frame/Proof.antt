@@ -10,10 +10,10 @@ use Rattle.side_data.specs.Limits.{Reported}
 use Rattle.side_data.specs.declared.SideData.{SideData}
 use Rattle.row_bands.specs.declared.Row.{Row}
 use Rattle.shape_frame.specs.FrameSide.{sideOf, frameFound}
-use Rattle.shape_frame.specs.declared.frame.Found.{Found}
+use Rattle.shape_frame.specs.declared.Found.{Found}
 use Rattle.shape_frame.proofs.FrameLimits.{side-reported}
-use Rattle.shape_frame.proofs.frame.analyse_frame.Statement.{statement}
-use Rattle.shape_frame.proofs.frame.analyse_frame.Tie as tie
+use Rattle.shape_frame.proofs.analyse_frame.Statement.{statement}
+use Rattle.shape_frame.proofs.analyse_frame.Tie as tie
 
 both : (row : Row) (lines : List Float) (flag : Bool) (weighting : ℕ) (side : SideData) (bits : ℕ) → side ≡ sideOf row lines flag weighting → bits ≡ bitsOf side
     → _≡_ {A = Found} (record { bits = bits; side = side }) (frameFound row lines flag weighting)

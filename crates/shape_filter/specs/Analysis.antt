@@ -12,7 +12,7 @@ use Rattle.shape_recursion.specs.Recursion.{predicted}
 use Rattle.shape_gain.specs.Gain.{gainRecord}
 use Rattle.shape_reflections.specs.Reflections.{damped, reflections}
 use Rattle.shape_gain.specs.declared.FilterGain.{FilterGain}
-use Rattle.shape_frame.specs.declared.Analysed.{Analysed}
+use Rattle.shape_filter.specs.declared.Analysed.{Analysed}
 
 -- the record of a filter on a band
 unfoldable pub filterRecord : Band → List Float → Bool → ℕ → FilterGain

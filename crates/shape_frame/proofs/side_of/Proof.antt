@@ -9,8 +9,8 @@ use Rattle.row_bands.specs.declared.Row.{Row}
 use Rattle.side_quantized.specs.declared.Quantized.{Quantized}
 use Rattle.side_data.specs.declared.SideData.{SideData}
 use Rattle.shape_frame.specs.FrameSide.{countOf, filterOf, secondOf, sideOf}
-use Rattle.shape_frame.proofs.frame.side_of.Statement.{statement}
-use Rattle.shape_frame.proofs.frame.side_of.Tie as tie
+use Rattle.shape_frame.proofs.side_of.Statement.{statement}
+use Rattle.shape_frame.proofs.side_of.Tie as tie
 
 parts : (row : Row) (lines : List Float) (flag : Bool) (weighting filters : ℕ) (a b : Quantized) → a ≡ filterOf (row .first) lines flag weighting
     → b ≡ secondOf row lines flag weighting → filters ≡ countOf row

@@ -1,6 +1,6 @@
 -- The calls, one after the other, are the definition.
 use mathlib.Core.Path.{_≡_, _∙_, ap}
-use mathlib.Core.Bool.{Bool, true, false}
+use mathlib.Core.Bool.{Bool, true}
 use mathlib.Core.List.{List}
 use Prim.Native.Nat.{ℕ}
 use borrow.Author.Needs.{needs}
@@ -13,12 +13,13 @@ use Rattle.shape_lags.specs.Autocorrelation.{autocorrelation}
 use Rattle.shape_recursion.specs.Recursion.{predicted}
 use Rattle.shape_gain.specs.Gain.{gainRecord}
 use Rattle.shape_reflections.specs.Reflections.{damped, reflections}
-use Rattle.shape_frame.specs.Analysis.{filterRecord, reflectionsOf, analysedOf}
-use Rattle.shape_frame.specs.declared.Analysed.{Analysed}
+use Rattle.shape_filter.specs.Analysis.{filterRecord, reflectionsOf, analysedOf}
+use Rattle.shape_filter.specs.declared.Analysed.{Analysed}
 use Rattle.shape_gain.specs.declared.FilterGain.{FilterGain}
 use Rattle.shape_recursion.specs.declared.Predictor.{Predictor}
-use Rattle.shape_frame.proofs.analyse.Statement.{statement}
-use Rattle.shape_frame.proofs.analyse.Tie as tie
+use Rattle.shape_filter.proofs.FilterReflections.{off-zeros}
+use Rattle.shape_filter.proofs.analyse.Statement.{statement}
+use Rattle.shape_filter.proofs.analyse.Tie as tie
 
 module _ (b : Band) (lines : List Float) (flag : Bool) (weighting : ℕ) where
   both : (g : FilterGain) (x : List Float) → g ≡ filterRecord b lines flag weighting → x ≡ reflectionsOf b lines flag weighting
@@ -34,10 +35,6 @@ module _ (b : Band) (lines : List Float) (flag : Bool) (weighting : ℕ) where
       → g .on ≡ true → x ≡ reflections (damped (p .row) (g .damping)) → x ≡ reflectionsOf b lines flag weighting
   unfolding reflectionsOf
   on-is p g x eg ep on ex = rw (← eg, on, ← ep) ex
-
-  off-is : (g : FilterGain) → g ≡ filterRecord b lines flag weighting → g .on ≡ false → replicate 8 f0 ≡ reflectionsOf b lines flag weighting
-  unfolding reflectionsOf
-  off-is g eg off = rw (← eg, off)
 
 returns : tie.Need-returns
 returns c =
@@ -66,7 +63,7 @@ returns-2 c =
     (lagged .autocorrelated .ensures) (predicting .predict .ensures) (gained .gain-record .ensures)
     in
     both (g .band) xs (g .flag) (g .weighting) (gained .gain-record .result) (replicate 8 f0) eg
-    (off-is (g .band) xs (g .flag) (g .weighting) (gained .gain-record .result) eg (c .if1 .left))
+    (off-zeros (g .band) xs (g .flag) (g .weighting) (gained .gain-record .result) eg (c .if1 .left))
 
 pub analyse-spec : {M : Type 1} → statement M
 analyse-spec =

@@ -10,13 +10,14 @@ use Rattle.row_bands.specs.declared.Band.{Band}
 use Rattle.law_rounding.specs.Floats.{f0}
 use Rattle.index_choice.specs.Indices.{indexOf, orderOf, orderFrom, notAbove}
 use Rattle.index_coefficients.specs.Coefficients.{coefficientOf}
-use Rattle.shape_frame.specs.Analysis.{filterRecord, reflectionsOf}
 use Rattle.shape_gain.specs.declared.FilterGain.{FilterGain}
-use Rattle.shape_frame.specs.declared.Analysed.{Analysed}
+use Rattle.shape_filter.specs.Analysis.{filterRecord, reflectionsOf}
+use Rattle.shape_filter.specs.declared.Analysed.{Analysed}
+use Rattle.shape_filter.proofs.FilterReflections.{off-zeros}
 use Rattle.side_quantized.specs.Quantized.{quantizedOf, absent}
 use Rattle.shape_frame.specs.FrameSide.{filterOf}
-use Rattle.shape_frame.proofs.frame.filter_of.Statement.{statement}
-use Rattle.shape_frame.proofs.frame.filter_of.Tie as tie
+use Rattle.shape_frame.proofs.filter_of.Statement.{statement}
+use Rattle.shape_frame.proofs.filter_of.Tie as tie
 
 zeros-absent : absent ≡ quantizedOf (replicate 8 f0)
 unfolding absent quantizedOf indexOf coefficientOf orderOf orderFrom notAbove lib.Ieee.le lib.Ieee.ofBits
@@ -24,8 +25,7 @@ zeros-absent = refl
 
 off-is : (b : Band) (lines : List Float) (flag : Bool) (weighting : ℕ) (g : FilterGain) → g ≡ filterRecord b lines flag weighting → g .on ≡ false
     → absent ≡ quantizedOf (reflectionsOf b lines flag weighting)
-unfolding reflectionsOf
-off-is b lines flag weighting g eg off = rw (← eg, off) zeros-absent
+off-is b lines flag weighting g eg off = zeros-absent ∙ ap quantizedOf (off-zeros b lines flag weighting g eg off)
 
 returns : tie.Need-returns
 unfolding filterOf

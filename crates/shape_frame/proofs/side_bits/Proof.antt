@@ -10,8 +10,8 @@ use Rattle.cost_call.proofs.Costs.{one-counted, two-counted}
 use Rattle.side_data.specs.Side.{bitsOf}
 use Rattle.side_data.specs.declared.SideData.{SideData}
 use Rattle.side_data.specs.Limits.{Reported}
-use Rattle.shape_frame.proofs.frame.side_bits.Statement.{statement}
-use Rattle.shape_frame.proofs.frame.side_bits.Tie as tie
+use Rattle.shape_frame.proofs.side_bits.Statement.{statement}
+use Rattle.shape_frame.proofs.side_bits.Tie as tie
 
 only-two : (n : ℕ) → 1 ≤ n → n ≤ 2 → (n ≡ 1 → ⊥) → n ≡ 2
 only-two n h k d = omega arith
