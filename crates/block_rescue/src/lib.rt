@@ -1,10 +1,10 @@
 // What becomes of one block of a damaged narration: it is kept, under the number that it takes among
 // those kept, or it has a fault. Which number stands in it is no fault.
+use block_bytes::with_sums;
 use block_check::BlockAnswer;
 use block_check::BlockRefusal;
 use block_check::check_block;
 use block_numbers::word_of;
-use block_write::with_sums;
 ghost use mathlib.Core.Path.{_≡_};
 ghost use mathlib.Core.List.{_++_};
 ghost use lib.ListN.{length, take, replicate};

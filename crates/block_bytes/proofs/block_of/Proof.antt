@@ -6,8 +6,8 @@ use borrow.Author.Needs.{needs}
 use lib.ListN.{length, take, replicate}
 use Rattle.block_parts.specs.Parts.{bodyBytes, sumBytes, blockBytes}
 use Rattle.block_parts.proofs.Laid.{its-body}
-use Rattle.block_write.proofs.block_of.Statement.{statement}
-use Rattle.block_write.proofs.block_of.Tie as tie
+use Rattle.block_bytes.proofs.block_of.Statement.{statement}
+use Rattle.block_bytes.proofs.block_of.Tie as tie
 
 sums-of-body : (number : ℕ) (records block : List ℕ) → length records ≤ 480 → block ≡ bodyBytes number records ++ replicate 4 0
     → take 508 block ++ sumBytes (take 508 block) ≡ blockBytes number records

@@ -11,8 +11,8 @@ use lib.Seq.{sets-eq}
 use Rattle.block_numbers.specs.Sums.{sumsOf}
 use Rattle.block_numbers.specs.declared.Sums.{Sums}
 use Rattle.block_parts.specs.Parts.{sumBytes}
-use Rattle.block_write.proofs.with_sums.Statement.{statement}
-use Rattle.block_write.proofs.with_sums.Tie as tie
+use Rattle.block_bytes.proofs.with_sums.Statement.{statement}
+use Rattle.block_bytes.proofs.with_sums.Tie as tie
 
 stored : (block : List ℕ) (sums : Sums) → length block ≡ 512 → sums ≡ sumsOf (take 508 block)
     → set (set (set (set block 508 (sums .plain % 256)) 509 (sums .plain / 256)) 510 (sums .weighted % 256)) 511 (sums .weighted / 256)

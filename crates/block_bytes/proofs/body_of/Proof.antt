@@ -8,8 +8,8 @@ use borrow.Author.Needs.{needs}
 use lib.ListN.{length, set, getD, length-set}
 use lib.Seq.{paste, paste-zero, paste-suc}
 use Rattle.block_parts.proofs.Laid.{body-laid}
-use Rattle.block_write.proofs.body_of.Statement.{statement}
-use Rattle.block_write.proofs.body_of.Tie as tie
+use Rattle.block_bytes.proofs.body_of.Statement.{statement}
+use Rattle.block_bytes.proofs.body_of.Tie as tie
 
 abbrev Inv-loop : tie.InvT-loop
 Inv-loop number records block₀ i₀ i-end block i = (length block ≡ 512) × (i ≤ length records) × (i-end ≡ length records) × (block ≡ paste block₀ 8 records i)
