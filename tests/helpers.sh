@@ -90,10 +90,12 @@ unread() { # WORD INPUT
     fi
 }
 
-# Sets $memory to how much a program may have in a test of what it holds, in KiB: 16 MiB, or, where an emulator
-# takes more by itself, the least with which the program $1 answers an input of no bytes, twenty times.
+# Sets $memory to how much a program may have in a test of what it holds, in KiB: 16 MiB. Where the programs run
+# under an emulator, which takes more by itself, it is a step more than the least with which the program $1
+# answers an input of no bytes, twenty times.
 little_memory() { # PROGRAM
     memory=16384
+    [ "$(uname -m)" != x86_64 ] || return 0
     until twenty sh -c 'ulimit -v "$1" && exec "$2" </dev/null >/dev/null' sh $memory "$programs/$1" 2>/dev/null; do
         memory=$((memory + 4096))
         [ $memory -lt 1048576 ] || {
@@ -101,6 +103,7 @@ little_memory() { # PROGRAM
             exit 1
         }
     done
+    memory=$((memory + 4096))
 }
 twenty() { # COMMAND..
     for _ in 1 2 3 4 5 6 7 8 9 10 11 12 13 14 15 16 17 18 19 20; do "$@" || return; done

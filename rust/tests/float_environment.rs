@@ -484,8 +484,8 @@ fn side_data_and_states_hang_on_the_environment() {
     }
 }
 
-/// What single products raise: the five exceptions but the division by zero. An emulator may know no
-/// denormal operand; then no call can raise that one either.
+/// What single products raise: all exceptions but the division by zero. An emulator may have no flag for a
+/// denormal operand; then no call can raise it either.
 fn raised_by_products() -> u32 {
     let raised = |x: f32, y: f32| within(DEFAULT, || black_box(black_box(x) * black_box(y))).1 & FLAGS;
     let denormal = raised(f32::from_bits(1), 1.0);

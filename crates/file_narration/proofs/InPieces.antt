@@ -10,7 +10,7 @@ use lib.Seq.{take-append-le, drop-append-le}
 use Rattle.law_lists.specs.Portions.{portions}
 use Rattle.law_lists.proofs.Portions.{portions-first, portions-none}
 use Rattle.check_verdicts.specs.Verdicts.{Verdict, accepted, refused}
-use Rattle.file_narration.specs.Files.{End, whole, refusedAt, Outcome, before, goOn, runFrom}
+use Rattle.file_narration.specs.Files.{End, whole, refusedAt, Outcome, before, goOn, outcomeFrom}
 use Rattle.file_narration.proofs.Cuts.{no-members}
 
 -- an outcome, and what follows it where nothing is refused
@@ -27,19 +27,19 @@ before-first bytes given whole rest = ap (λ (l : List ℕ). record { given = l;
 before-first bytes given (refusedAt number fault) rest = refl
 
 module _ (verdict : ℕ → List ℕ → Verdict (List ℕ)) where
-  run-split : (number : ℕ) (ps qs : List (List ℕ)) → runFrom verdict number (ps ++ qs) ≡ followedBy (runFrom verdict number ps) (runFrom verdict (number + length ps) qs)
-  unfolding runFrom
-  run-split number [] qs = let same : number + 0 ≡ number = omega arith in ap (λ (n : ℕ). runFrom verdict n qs) (sym same)
-  run-split number (p ∷ ps) qs =
+  outcome-split : (number : ℕ) (ps qs : List (List ℕ)) → outcomeFrom verdict number (ps ++ qs) ≡ followedBy (outcomeFrom verdict number ps) (outcomeFrom verdict (number + length ps) qs)
+  unfolding outcomeFrom
+  outcome-split number [] qs = let same : number + 0 ≡ number = omega arith in ap (λ (n : ℕ). outcomeFrom verdict n qs) (sym same)
+  outcome-split number (p ∷ ps) qs =
       let on : suc number + length ps ≡ number + suc (length ps) = omega arith in
-      ap (goOn number (verdict number p)) (run-split (suc number) ps qs ∙ ap (λ (n : ℕ). followedBy (runFrom verdict (suc number) ps) (runFrom verdict n qs)) on)
+      ap (goOn number (verdict number p)) (outcome-split (suc number) ps qs ∙ ap (λ (n : ℕ). followedBy (outcomeFrom verdict (suc number) ps) (outcomeFrom verdict n qs)) on)
       ∙ by-first (verdict number p)
     where
-      by-first : (v : Verdict (List ℕ)) → goOn number v (followedBy (runFrom verdict (suc number) ps) (runFrom verdict (number + suc (length ps)) qs))
-          ≡ followedBy (goOn number v (runFrom verdict (suc number) ps)) (runFrom verdict (number + suc (length ps)) qs)
+      by-first : (v : Verdict (List ℕ)) → goOn number v (followedBy (outcomeFrom verdict (suc number) ps) (outcomeFrom verdict (number + suc (length ps)) qs))
+          ≡ followedBy (goOn number v (outcomeFrom verdict (suc number) ps)) (outcomeFrom verdict (number + suc (length ps)) qs)
       by-first (accepted bytes) =
-          let first = runFrom verdict (suc number) ps in
-          before-first bytes (first .given) (first .end) (runFrom verdict (number + suc (length ps)) qs)
+          let first = outcomeFrom verdict (suc number) ps in
+          before-first bytes (first .given) (first .end) (outcomeFrom verdict (number + suc (length ps)) qs)
       by-first (refused fault) = refl
 
 -- whole portions, and what comes after them
@@ -58,7 +58,7 @@ portions-split size some (suc many) xs ys e =
     ∙ ap (λ (ps : List (List ℕ)). ps ++ portions size ys) (sym (portions-first size some xs (omega arith)))
 
 pub in-pieces : (verdict : ℕ → List ℕ → Verdict (List ℕ)) (size number many : ℕ) (piece rest : List ℕ) → 0 < size → length piece ≡ size * many
-    → runFrom verdict number (portions size (piece ++ rest))
-    ≡ followedBy (runFrom verdict number (portions size piece)) (runFrom verdict (number + length (portions size piece)) (portions size rest))
+    → outcomeFrom verdict number (portions size (piece ++ rest))
+    ≡ followedBy (outcomeFrom verdict number (portions size piece)) (outcomeFrom verdict (number + length (portions size piece)) (portions size rest))
 in-pieces verdict size number many piece rest some e =
-    ap (runFrom verdict number) (portions-split size some many piece rest e) ∙ run-split verdict number (portions size piece) (portions size rest)
+    ap (outcomeFrom verdict number) (portions-split size some many piece rest e) ∙ outcome-split verdict number (portions size piece) (portions size rest)

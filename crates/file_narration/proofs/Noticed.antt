@@ -20,9 +20,9 @@ use Rattle.block_numbers.specs.Sums.{sumsOf}
 use Rattle.block_parts.specs.Parts.{recordsIn, sumsRight, headerRight, numberRight, fillRight}
 use Rattle.block_check.specs.Blocks.{blockVerdict, readVerdict}
 use Rattle.block_check.proofs.Verdicts.{AcceptedBlock, tested, some-bytes}
-use Rattle.file_narration.specs.Files.{whole, refusedAt, Outcome, stoppedAt, before, goOn, runFrom, reading}
+use Rattle.file_narration.specs.Files.{whole, refusedAt, Outcome, stoppedAt, before, goOn, outcomeFrom, reading}
 use Rattle.file_narration.proofs.Cuts.{joined}
-use Rattle.file_narration.proofs.OnlyBlock.{AreBytes, plain-right, weighted-right, first-bytes, rest-bytes, cutOf, run-first, first-whole, first-accepted}
+use Rattle.file_narration.proofs.OnlyBlock.{AreBytes, plain-right, weighted-right, first-bytes, rest-bytes, cutOf, outcome-first, first-whole, first-accepted}
 
 -- ---- a block
 
@@ -117,14 +117,14 @@ noticedAt number file place = record { given = joined (take (place / 512) (cutOf
 
 -- an accepted first block leaves the rest to those after it
 going-on : (number : ℕ) (file : List ℕ) → 0 < length file → (records : List ℕ) → readVerdict number (take 512 file) ≡ accepted records
-    → runFrom readVerdict number (portions 512 file) ≡ before records (runFrom readVerdict (suc number) (portions 512 (drop 512 file)))
+    → outcomeFrom readVerdict number (portions 512 file) ≡ before records (outcomeFrom readVerdict (suc number) (portions 512 (drop 512 file)))
 going-on number file there records e =
-    run-first number file there ∙ ap (λ (v : Verdict (List ℕ)). goOn number v (runFrom readVerdict (suc number) (portions 512 (drop 512 file)))) e
+    outcome-first number file there ∙ ap (λ (v : Verdict (List ℕ)). goOn number v (outcomeFrom readVerdict (suc number) (portions 512 (drop 512 file)))) e
 
 -- in the first block
-first-noticed : (number : ℕ) (file : List ℕ) (place value : ℕ) → AreBytes file → (there : 0 < length file) → runFrom readVerdict number (portions 512 file) .end ≡ whole
+first-noticed : (number : ℕ) (file : List ℕ) (place value : ℕ) → AreBytes file → (there : 0 < length file) → outcomeFrom readVerdict number (portions 512 file) .end ≡ whole
     → place < 512 → value < 256 → (value ≡ getD file place 0 → ⊥)
-    → runFrom readVerdict number (portions 512 (set file place value)) ≡ stoppedAt number (numbered 10)
+    → outcomeFrom readVerdict number (portions 512 (set file place value)) ≡ stoppedAt number (numbered 10)
 first-noticed number file place value bytes there e here small other =
     let first = first-whole number file there e in
     let a = first-accepted number file there (first .records) (first .took) in
@@ -134,8 +134,8 @@ first-noticed number file place value bytes there e here small other =
     let its : take 512 (set file place value) ≡ set (take 512 file) place value = take-set-lt 512 file place value here in
     let still : 0 < length (set file place value) = omega (arith, length-set file place value) in
     let noticed = block-noticed number block (first .records) place value (first-bytes 512 file bytes) is a here small (λ q. other (q ∙ getD-take 512 file place 0 here)) in
-    run-first number changed still
-    ∙ ap (λ (v : Verdict (List ℕ)). goOn number v (runFrom readVerdict (suc number) (portions 512 (drop 512 changed))))
+    outcome-first number changed still
+    ∙ ap (λ (v : Verdict (List ℕ)). goOn number v (outcomeFrom readVerdict (suc number) (portions 512 (drop 512 changed))))
     (some-bytes number (take 512 changed) (omega (arith, length-take 512 changed)) ∙ ap (blockVerdict number) (take-take 512 512 changed (omega arith) ∙ its) ∙ noticed)
 
 -- the same in other words
@@ -143,9 +143,9 @@ refused-alike : {given other : List ℕ} {number block : ℕ} → given ≡ othe
     → _≡_ {A = Outcome} (record { given = given; end = refusedAt number (numbered 10) }) (record { given = other; end = refusedAt block (numbered 10) })
 refused-alike p q = cc
 
-noticed-in : (many number : ℕ) (file : List ℕ) (place value : ℕ) → length file ≤ many → AreBytes file → runFrom readVerdict number (portions 512 file) .end ≡ whole
+noticed-in : (many number : ℕ) (file : List ℕ) (place value : ℕ) → length file ≤ many → AreBytes file → outcomeFrom readVerdict number (portions 512 file) .end ≡ whole
     → place < length file → value < 256 → (value ≡ getD file place 0 → ⊥)
-    → runFrom readVerdict number (portions 512 (set file place value)) ≡ noticedAt number file place
+    → outcomeFrom readVerdict number (portions 512 (set file place value)) ≡ noticedAt number file place
 noticed-in zero number file place value h bytes e there small other = absurd (omega arith)
 noticed-in (suc many) number file place value h bytes e there small other = elim (decLt place 512) [
   | yes here ↦
@@ -169,7 +169,7 @@ noticed-in (suc many) number file place value h bytes e there small other = elim
       let blocks : place / 512 ≡ suc ((place - 512) / 512) = omega arith in
       let cut : cutOf file ≡ recordsIn (take 512 file) ∷ cutOf (drop 512 file) = ap (map recordsIn) (portions-first 512 (omega arith) file (omega arith)) in
       going-on number changed still (first .records) (ap (readVerdict number) same ∙ first .took)
-      ∙ ap (λ (f : List ℕ). before (first .records) (runFrom readVerdict (suc number) (portions 512 f))) rest
+      ∙ ap (λ (f : List ℕ). before (first .records) (outcomeFrom readVerdict (suc number) (portions 512 f))) rest
       ∙ ap (before (first .records)) further
       ∙ refused-alike
       (ap (λ (l : List ℕ). l ++ joined (take ((place - 512) / 512) (cutOf (drop 512 file)))) its

@@ -25,7 +25,7 @@ use Rattle.block_parts.specs.Parts.{countOf, countIn, headerBytes, fillBytes, b
 use Rattle.block_check.specs.Blocks.{blockVerdict, readVerdict}
 use Rattle.block_check.proofs.Verdicts.{AcceptedBlock, accepted-block, some-bytes}
 use Rattle.block_parts.proofs.Counted.{few-records, records-length, its-count}
-use Rattle.file_narration.specs.Files.{whole, Outcome, goOn, runFrom, reading, blocksFrom}
+use Rattle.file_narration.specs.Files.{whole, Outcome, goOn, outcomeFrom, reading, blocksFrom}
 use Rattle.file_narration.proofs.Cuts.{joined, no-members}
 
 -- numbers that are bytes
@@ -140,7 +140,7 @@ module _ (number : ℕ) (block records : List ℕ) (bytes : AreBytes block) (is 
 
 -- ---- files
 
--- a run that ends whole began with a block that was accepted, and went on whole
+-- an outcome that ends whole began with a block that was accepted, and went on whole
 pub record Began (verdict : Verdict (List ℕ)) (rest : Outcome) : Type 0 where
   pub records : List ℕ
   pub took : verdict ≡ accepted records
@@ -152,14 +152,14 @@ began number (refused fault) rest e = let z : _≡_ {A = ℕ} 0 1 = cc in absurd
 
 -- the first block of a file that is read whole, and the rest of the file
 module _ (number : ℕ) (file : List ℕ) (there : 0 < length file) where
-  pub run-first : runFrom readVerdict number (portions 512 file)
-      ≡ goOn number (readVerdict number (take 512 file)) (runFrom readVerdict (suc number) (portions 512 (drop 512 file)))
-  unfolding runFrom
-  run-first = ap (runFrom readVerdict number) (portions-first 512 (omega arith) file there)
+  pub outcome-first : outcomeFrom readVerdict number (portions 512 file)
+      ≡ goOn number (readVerdict number (take 512 file)) (outcomeFrom readVerdict (suc number) (portions 512 (drop 512 file)))
+  unfolding outcomeFrom
+  outcome-first = ap (outcomeFrom readVerdict number) (portions-first 512 (omega arith) file there)
 
-  pub first-whole : runFrom readVerdict number (portions 512 file) .end ≡ whole
-      → Began (readVerdict number (take 512 file)) (runFrom readVerdict (suc number) (portions 512 (drop 512 file)))
-  first-whole e = began number _ _ (ap (λ (o : Outcome). o .end) (sym run-first) ∙ e)
+  pub first-whole : outcomeFrom readVerdict number (portions 512 file) .end ≡ whole
+      → Began (readVerdict number (take 512 file)) (outcomeFrom readVerdict (suc number) (portions 512 (drop 512 file)))
+  first-whole e = began number _ _ (ap (λ (o : Outcome). o .end) (sym outcome-first) ∙ e)
 
   pub first-accepted : (records : List ℕ) → readVerdict number (take 512 file) ≡ accepted records → AcceptedBlock number (take 512 file) records
   first-accepted records e =
@@ -184,14 +184,14 @@ unfolding blocksFrom
 only-empty number file h =
     no-members file h ∙ ap (λ (ps : List (List ℕ)). blocksFrom number (map recordsIn ps)) (sym (ap (portions 512) (no-members file h) ∙ portions-none 512))
 
-none-given : (number : ℕ) (file : List ℕ) → length file ≡ 0 → runFrom readVerdict number (portions 512 file) .given ≡ joined (cutOf file)
-unfolding runFrom
+none-given : (number : ℕ) (file : List ℕ) → length file ≡ 0 → outcomeFrom readVerdict number (portions 512 file) .given ≡ joined (cutOf file)
+unfolding outcomeFrom
 none-given number file h =
     let none = ap (portions 512) (no-members file h) ∙ portions-none 512 in
-    ap (λ (ps : List (List ℕ)). runFrom readVerdict number ps .given) none ∙ ap (λ (ps : List (List ℕ)). joined (map recordsIn ps)) (sym none)
+    ap (λ (ps : List (List ℕ)). outcomeFrom readVerdict number ps .given) none ∙ ap (λ (ps : List (List ℕ)). joined (map recordsIn ps)) (sym none)
 
 -- of no more bytes than so many
-only-in : (many number : ℕ) (file : List ℕ) → length file ≤ many → AreBytes file → runFrom readVerdict number (portions 512 file) .end ≡ whole
+only-in : (many number : ℕ) (file : List ℕ) → length file ≤ many → AreBytes file → outcomeFrom readVerdict number (portions 512 file) .end ≡ whole
     → file ≡ blocksFrom number (cutOf file)
 unfolding blocksFrom
 only-in zero number file h bytes e = only-empty number file (omega arith)
@@ -213,17 +213,17 @@ pub only-file : (file : List ℕ) → AreBytes file → reading file .end ≡ wh
 only-file file bytes e = only-in (length file) 0 file (omega arith) bytes e
 
 -- and gives the records of its blocks, one block's behind the other's
-given-in : (many number : ℕ) (file : List ℕ) → length file ≤ many → runFrom readVerdict number (portions 512 file) .end ≡ whole
-    → runFrom readVerdict number (portions 512 file) .given ≡ joined (cutOf file)
+given-in : (many number : ℕ) (file : List ℕ) → length file ≤ many → outcomeFrom readVerdict number (portions 512 file) .end ≡ whole
+    → outcomeFrom readVerdict number (portions 512 file) .given ≡ joined (cutOf file)
 given-in zero number file h e = none-given number file (omega arith)
 given-in (suc many) number file h e = elim (decLt 0 (length file)) [
   | yes there ↦
       let first = first-whole number file there e in
       let a = first-accepted number file there (first .records) (first .took) in
       let rest = given-in many (suc number) (drop 512 file) (omega (arith, length-drop 512 file)) (first .went-on) in
-      ap (λ (o : Outcome). o .given) (run-first number file there)
-      ∙ ap (λ (v : Verdict (List ℕ)). goOn number v (runFrom readVerdict (suc number) (portions 512 (drop 512 file))) .given) (first .took)
-      ∙ ap (λ (l : List ℕ). l ++ runFrom readVerdict (suc number) (portions 512 (drop 512 file)) .given) (a .given)
+      ap (λ (o : Outcome). o .given) (outcome-first number file there)
+      ∙ ap (λ (v : Verdict (List ℕ)). goOn number v (outcomeFrom readVerdict (suc number) (portions 512 (drop 512 file))) .given) (first .took)
+      ∙ ap (λ (l : List ℕ). l ++ outcomeFrom readVerdict (suc number) (portions 512 (drop 512 file)) .given) (a .given)
       ∙ ap (λ (l : List ℕ). recordsIn (take 512 file) ++ l) rest
       ∙ ap (λ (ps : List (List ℕ)). joined (map recordsIn ps)) (sym (portions-first 512 (omega arith) file there))
   | no none ↦ none-given number file (omega arith)

@@ -19,25 +19,25 @@ use Rattle.block_check.specs.Blocks.{blockVerdict, readVerdict, writeVerdict}
 use Rattle.block_parts.proofs.Sound.{sound-none, sound-first}
 use Rattle.block_parts.proofs.Laid.{block-length, block-count}
 use Rattle.block_check.proofs.Verdicts.{some-bytes, records-decide, written-block}
-use Rattle.file_narration.specs.Files.{whole, Outcome, nothing, before, goOn, runFrom, reading, writing, blocksFrom}
+use Rattle.file_narration.specs.Files.{whole, Outcome, nothing, before, goOn, outcomeFrom, reading, writing, blocksFrom}
 use Rattle.file_narration.proofs.BlockBack.{block-back}
 use Rattle.file_narration.proofs.Cuts.{joined, no-members, portions-joined, portions-at-most, some-members}
 
--- ---- the run of the blocks one after the other
+-- ---- the outcome of the blocks one after the other
 
 module _ (verdict : ℕ → List ℕ → Verdict (List ℕ)) where
-  pub run-none : (number : ℕ) → runFrom verdict number [] ≡ nothing
-  unfolding runFrom
-  run-none number = refl
+  pub outcome-none : (number : ℕ) → outcomeFrom verdict number [] ≡ nothing
+  unfolding outcomeFrom
+  outcome-none number = refl
 
-  run-next : (number : ℕ) (portion : List ℕ) (rest : List (List ℕ)) → runFrom verdict number (portion ∷ rest) ≡ goOn number (verdict number portion) (runFrom verdict (suc number) rest)
-  unfolding runFrom
-  run-next number portion rest = refl
+  outcome-next : (number : ℕ) (portion : List ℕ) (rest : List (List ℕ)) → outcomeFrom verdict number (portion ∷ rest) ≡ goOn number (verdict number portion) (outcomeFrom verdict (suc number) rest)
+  unfolding outcomeFrom
+  outcome-next number portion rest = refl
 
-  pub run-accepted : (number : ℕ) (portion given : List ℕ) (rest : List (List ℕ)) → verdict number portion ≡ accepted given
-      → runFrom verdict number (portion ∷ rest) ≡ before given (runFrom verdict (suc number) rest)
-  unfolding runFrom
-  run-accepted number portion given rest e = rw e
+  pub outcome-accepted : (number : ℕ) (portion given : List ℕ) (rest : List (List ℕ)) → verdict number portion ≡ accepted given
+      → outcomeFrom verdict number (portion ∷ rest) ≡ before given (outcomeFrom verdict (suc number) rest)
+  unfolding outcomeFrom
+  outcome-accepted number portion given rest e = rw e
 
 -- ---- any count in any block
 
@@ -62,13 +62,13 @@ its-verdict number records in-range h =
 
 -- the reader takes any sound count in any block
 pub any-count : (number : ℕ) (lists : List (List ℕ)) → number + length lists ≤ 65536 → AllHoldable lists
-    → runFrom readVerdict number (portions 512 (blocksFrom number lists)) ≡ record { given = joined lists; end = whole }
+    → outcomeFrom readVerdict number (portions 512 (blocksFrom number lists)) ≡ record { given = joined lists; end = whole }
 unfolding blocksFrom
-any-count number [] limit all = ap (runFrom readVerdict number) (portions-none 512) ∙ run-none readVerdict number
+any-count number [] limit all = ap (outcomeFrom readVerdict number) (portions-none 512) ∙ outcome-none readVerdict number
 any-count number (records ∷ rest) limit all =
-    ap (runFrom readVerdict number)
+    ap (outcomeFrom readVerdict number)
     (portions-after 512 (omega arith) (blockBytes number records) (blocksFrom (suc number) rest) (block-length number records (all .0 .few)))
-    ∙ run-accepted readVerdict number (blockBytes number records) records (portions 512 (blocksFrom (suc number) rest))
+    ∙ outcome-accepted readVerdict number (blockBytes number records) records (portions 512 (blocksFrom (suc number) rest))
     (its-verdict number records (omega arith) (all .0))
     ∙ ap (before records) (any-count (suc number) rest (omega arith) (all .1))
 
@@ -82,11 +82,11 @@ its-block number records in-range h =
 
 -- so lists of them are written as the file that holds them
 pub written-blocks : (number : ℕ) (lists : List (List ℕ)) → number + length lists ≤ 65536 → AllHoldable lists
-    → runFrom writeVerdict number lists ≡ record { given = blocksFrom number lists; end = whole }
+    → outcomeFrom writeVerdict number lists ≡ record { given = blocksFrom number lists; end = whole }
 unfolding blocksFrom
-written-blocks number [] limit all = run-none writeVerdict number
+written-blocks number [] limit all = outcome-none writeVerdict number
 written-blocks number (records ∷ rest) limit all =
-    run-accepted writeVerdict number records (blockBytes number records) rest (its-block number records (omega arith) (all .0))
+    outcome-accepted writeVerdict number records (blockBytes number records) rest (its-block number records (omega arith) (all .0))
     ∙ ap (before (blockBytes number records)) (written-blocks (suc number) rest (omega arith) (all .1))
 
 -- ---- the portions of sound records
@@ -172,10 +172,10 @@ full-step first rest is its later (suc block) more =
 
 -- what is written of some records, the first block of this number
 abbrev written : ℕ → List ℕ → Outcome
-written number records = runFrom writeVerdict number (portions 480 records)
+written number records = outcomeFrom writeVerdict number (portions 480 records)
 
 none-written : (number : ℕ) (records : List ℕ) → length records ≡ 0 → written number records ≡ nothing
-none-written number records h = ap (runFrom writeVerdict number) (ap (portions 480) (no-members records h) ∙ portions-none 480) ∙ run-none writeVerdict number
+none-written number records h = ap (outcomeFrom writeVerdict number) (ap (portions 480) (no-members records h) ∙ portions-none 480) ∙ outcome-none writeVerdict number
 
 -- what gives bytes has records
 some-left : (number : ℕ) (records : List ℕ) → 0 < length (written number records .given) → 0 < length records
@@ -202,7 +202,7 @@ full-in zero number records h block = subst (λ (o : Outcome). Full (o .given) b
 full-in (suc many) number records h block = elim (decLt 0 (length records)) [
   | yes there ↦
       let later : (block : ℕ) → Full (written (suc number) (drop 480 records) .given) block = full-in many (suc number) (drop 480 records) (omega (arith, length-drop 480 records)) in
-      subst (λ (o : Outcome). Full (o .given) block) (sym (ap (runFrom writeVerdict number) (portions-first 480 (omega arith) records there) ∙ run-next writeVerdict number (take 480 records) (portions 480 (drop 480 records))))
+      subst (λ (o : Outcome). Full (o .given) block) (sym (ap (outcomeFrom writeVerdict number) (portions-first 480 (omega arith) records there) ∙ outcome-next writeVerdict number (take 480 records) (portions 480 (drop 480 records))))
       (by-verdict number records there later (writeVerdict number (take 480 records)) refl block)
   | no none ↦ subst (λ (o : Outcome). Full (o .given) block) (sym (none-written number records (omega arith))) (none-full block)
 ]
@@ -213,7 +213,7 @@ every-block-full records block more = full-in (length records) 0 records (omega 
 
 -- no records write no bytes, and no bytes read as no records
 pub nothing-written : writing [] ≡ nothing
-nothing-written = ap (runFrom writeVerdict 0) (portions-none 480) ∙ run-none writeVerdict 0
+nothing-written = ap (outcomeFrom writeVerdict 0) (portions-none 480) ∙ outcome-none writeVerdict 0
 
 pub nothing-read : reading [] ≡ nothing
-nothing-read = ap (runFrom readVerdict 0) (portions-none 512) ∙ run-none readVerdict 0
+nothing-read = ap (outcomeFrom readVerdict 0) (portions-none 512) ∙ outcome-none readVerdict 0

@@ -33,17 +33,17 @@ goOn number (accepted bytes) rest = before bytes rest
 goOn number (refused fault) rest = stoppedAt number fault
 
 -- block by block, the first of this number
-unfoldable pub runFrom : (ℕ → List ℕ → Verdict (List ℕ)) → ℕ → List (List ℕ) → Outcome
-runFrom verdict number [] = nothing
-runFrom verdict number (portion ∷ portions) = goOn number (verdict number portion) (runFrom verdict (suc number) portions)
+unfoldable pub outcomeFrom : (ℕ → List ℕ → Verdict (List ℕ)) → ℕ → List (List ℕ) → Outcome
+outcomeFrom verdict number [] = nothing
+outcomeFrom verdict number (portion ∷ portions) = goOn number (verdict number portion) (outcomeFrom verdict (suc number) portions)
 
 -- a file's records, and the first refusal with its block
 abbrev pub reading : List ℕ → Outcome
-reading file = runFrom readVerdict 0 (portions 512 file)
+reading file = outcomeFrom readVerdict 0 (portions 512 file)
 
 -- the file of some records, and the first refusal with its block
 abbrev pub writing : List ℕ → Outcome
-writing records = runFrom writeVerdict 0 (portions 480 records)
+writing records = outcomeFrom writeVerdict 0 (portions 480 records)
 
 -- the file whose blocks hold these records, a list of them for each block, the first of this number
 unfoldable pub blocksFrom : ℕ → List (List ℕ) → List ℕ

@@ -16,7 +16,7 @@ use Rattle.block_numbers.specs.Sums.{sumsOf}
 use Rattle.block_parts.specs.Parts.{recordsIn, sumBytes}
 use Rattle.block_check.specs.Blocks.{readVerdict}
 use Rattle.block_check.proofs.Verdicts.{AcceptedBlock, all-right}
-use Rattle.file_narration.specs.Files.{whole, Outcome, runFrom, reading}
+use Rattle.file_narration.specs.Files.{whole, Outcome, outcomeFrom, reading}
 use Rattle.file_narration.proofs.Cuts.{no-members}
 use Rattle.file_narration.proofs.OnlyBlock.{AreBytes, first-whole, first-accepted, first-bytes, rest-bytes, only-file}
 use Rattle.block_rescue.specs.Rescue.{renumbered}
@@ -59,7 +59,7 @@ sound-first number file records there a rest =
     }
 
 -- of no more bytes than so many
-sound-in : (many number : ℕ) (file : List ℕ) → length file ≤ many → number ≤ 65536 → runFrom readVerdict number (portions 512 file) .end ≡ whole → Sound number file
+sound-in : (many number : ℕ) (file : List ℕ) → length file ≤ many → number ≤ 65536 → outcomeFrom readVerdict number (portions 512 file) .end ≡ whole → Sound number file
 sound-in zero number file h few e = sound-empty number file few (omega arith)
 sound-in (suc many) number file h few e = elim (decLt 0 (length file)) [
   | yes there ↦

@@ -8,7 +8,7 @@ use Rattle.law_lists.specs.Portions.{portions}
 use Rattle.check_verdicts.specs.Verdicts.{Verdict, accepted, refused}
 use Rattle.block_check.specs.Blocks.{readVerdict, writeVerdict}
 use Rattle.block_check.specs.Told.{blockFault}
-use Rattle.file_narration.specs.Files.{End, whole, refusedAt, Outcome, runFrom}
+use Rattle.file_narration.specs.Files.{End, whole, refusedAt, Outcome, outcomeFrom}
 use Rattle.text_put.specs.Text.{Puts}
 use Rattle.io_blocks.specs.declared.Way.{Way}
 use Rattle.io_blocks.specs.declared.Way.the-variants.{ToRecords, ToBlocks}
@@ -41,7 +41,7 @@ StepDone verdict found at left (Refused why) = (verdict ≡ refused (blockFault 
 
 -- the run over the blocks of some bytes, the first of this number
 abbrev pub blocksOf : Way → ℕ → List ℕ → Outcome
-blocksOf way number bytes = runFrom (verdictOf way) number (portions (sizeOf way) bytes)
+blocksOf way number bytes = outcomeFrom (verdictOf way) number (portions (sizeOf way) bytes)
 
 abbrev pub endOf : Ended → ℕ → End
 endOf Whole next = whole

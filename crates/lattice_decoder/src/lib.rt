@@ -5,8 +5,8 @@ ghost use mathlib.Core.Path.{_≡_};
 ghost use Prim.Native.Nat.{_<_, _≤_};
 ghost use Rattle.lattice_decoder.specs.DecoderLattice.{lineDecoded};
 
-// One line through a filter. It requires an order of 1 to 8: `band_decoded` of lattice_bands, its one caller,
-// names each of them.
+// One line through a filter. It requires an order of 1 to 8: lattice_bands calls it for each of them, by a
+// literal.
 pub fn line_decoded(q: [f32; 8], order: usize, states: [f32; 8], line: f32) -> Passed
     requires { ⌜ (0 < order) × (order ≤ 8) ⌝ }
     ensures { λ r. ⌜ r ≡ lineDecoded q order states line ⌝ }

@@ -42,8 +42,8 @@ fn stages_up(q: [f32; 8], stages: usize, line: f32, states: [f32; 8]) -> Passing
     p
 }
 
-// One line through a filter. It requires an order of 1 to 8: `band_encoded` of lattice_bands, its one caller,
-// names each of them.
+// One line through a filter. It requires an order of 1 to 8: lattice_bands calls it for each of them, by a
+// literal.
 pub fn line_encoded(q: [f32; 8], order: usize, states: [f32; 8], line: f32) -> Passed
     requires { ⌜ (0 < order) × (order ≤ 8) ⌝ }
     ensures { λ r. ⌜ r ≡ lineEncoded q order states line ⌝ }

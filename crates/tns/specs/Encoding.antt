@@ -12,7 +12,7 @@ use Rattle.call_encode.specs.Encoder.{bitsVerdict, sideIn, linesAfter}
 use Rattle.answer_call.specs.Answers.{answerFor}
 use Rattle.answer_call.specs.declared.Answer.{Answer}
 
--- a caller's three lists, as a call finds them or leaves them: the spectrum, the 20 bytes of the record, the coefficients
+-- a caller's three lists, as a call finds them or leaves them: the spectrum, the 20 bytes of side data, the coefficients
 pub record Lent : Type 0 where
   pub lines : List Float
   pub bytes : List ℕ

@@ -1,4 +1,4 @@
--- The invariant: for a piece, what is put so far, and then the run over the blocks that are left, is the run over all. A block that another follows
+-- The invariant: for a piece, what is put so far, and then the outcome of the blocks that are left, is the outcome of all. A block that another follows
 -- takes 480 bytes of input at least and adds 512 to the output at most, so that there is room for one more.
 use mathlib.Core.Path.{_≡_, refl, sym, _∙_, ap, subst}
 use mathlib.Core.List.{List, _++_, append-assoc, append-nil}
@@ -11,8 +11,8 @@ use Rattle.io.specs.Counts.{Counts}
 use Rattle.law_lists.specs.Portions.{portions}
 use Rattle.law_lists.proofs.Portions.{portions-at, portions-none}
 use Rattle.check_verdicts.specs.Verdicts.{Fault, Verdict, accepted, refused}
-use Rattle.file_narration.specs.Files.{whole, refusedAt, Outcome, nothing, before, goOn, runFrom}
-use Rattle.file_narration.proofs.ReadBack.{run-none}
+use Rattle.file_narration.specs.Files.{whole, refusedAt, Outcome, nothing, before, goOn, outcomeFrom}
+use Rattle.file_narration.proofs.ReadBack.{outcome-none}
 use Rattle.io_blocks.specs.PutBlocks.{sizeOf, verdictOf, StepDone, blocksOf}
 use Rattle.io_blocks.specs.declared.Way.{Way}
 use Rattle.io_blocks.specs.declared.Way.the-variants.{ToRecords, ToBlocks}
@@ -34,8 +34,8 @@ module _ (way : Way) (number : ℕ) (bytes : List ℕ) where
   module _ (from end next : ℕ) (here : from < length bytes) (ends : end ≡ min (from + sizeOf way) (length bytes)) where
     -- the next block, and those after it
     one-more : blocksOf way next (drop from bytes) ≡ goOn next (verdictOf way next (take (end - from) (drop from bytes))) (blocksOf way (suc next) (drop end bytes))
-    unfolding runFrom
-    one-more = ap (runFrom (verdictOf way) next) (portions-at (sizeOf way) (omega (arith, enough way)) from end bytes here ends)
+    unfolding outcomeFrom
+    one-more = ap (outcomeFrom (verdictOf way) next) (portions-at (sizeOf way) (omega (arith, enough way)) from end bytes here ends)
 
     module _ (so-far : List ℕ) (is : before so-far (blocksOf way next (drop from bytes)) ≡ blocksOf way number bytes) where
       goes-on : (given : List ℕ) → verdictOf way next (take (end - from) (drop from bytes)) ≡ accepted given
@@ -58,7 +58,7 @@ module _ (way : Way) (number : ℕ) (bytes : List ℕ) where
       → record { given = so-far; end = whole } ≡ blocksOf way number bytes
   all-done from next so-far past is =
       let none : blocksOf way next (drop from bytes) ≡ nothing =
-      ap (blocksOf way next) (drop-of-length-le bytes past) ∙ ap (runFrom (verdictOf way) next) (portions-none (sizeOf way)) ∙ run-none (verdictOf way) next
+      ap (blocksOf way next) (drop-of-length-le bytes past) ∙ ap (outcomeFrom (verdictOf way) next) (portions-none (sizeOf way)) ∙ outcome-none (verdictOf way) next
       in
       ap (λ (l : List ℕ). record { given = l; end = whole }) (sym (append-nil so-far)) ∙ ap (before so-far) (sym none) ∙ is
 
@@ -69,7 +69,7 @@ Piece number bytes out = (number ≤ 65536) × (length bytes ≤ 61440) × (6604
 record SoFar (way : Way) (number : ℕ) (bytes out : List ℕ) (at from next : ℕ) : Type 0 where
   in-reach : next ≤ 65536
   room : from < length bytes → 480 * at ≤ 512 * from
-  run : before (take at out) (blocksOf way next (drop from bytes)) ≡ blocksOf way number bytes
+  outcome : before (take at out) (blocksOf way next (drop from bytes)) ≡ blocksOf way number bytes
 
 abbrev Inv-loop : tie.InvT-loop
 Inv-loop way number bytes out₀ size at₀ from₀ next₀ out at from next =
@@ -81,7 +81,7 @@ abbrev μ-loop : tie.MeasureT-loop
 μ-loop way number bytes out₀ size at₀ from₀ next₀ out at from next = length bytes - from
 
 loop-holds : tie.Need-loop-holds Inv-loop μ-loop
-loop-holds c = (refl, omega arith, (omega arith, refl), refl, λ piece. record { in-reach = piece .0; room = λ h. omega arith; run = refl })
+loop-holds c = (refl, omega arith, (omega arith, refl), refl, λ piece. record { in-reach = piece .0; room = λ h. omega arith; outcome = refl })
 
 never : {number : ℕ} {fault : Fault} {A : Type 0} → refusedAt number fault ≡ whole → A
 never e = let z : _≡_ {A = ℕ} 0 1 = cc in absurd (omega arith)
@@ -131,12 +131,12 @@ returns c =
     let same : called .put-block .last .1 .1 .1 .0 ≡ l .out = refused-there .1 in
     λ piece.
     let so-far = l .inv .4 piece in
-    let run = stops (g .way) (g .number) (g .bytes .now) (l .from) (cut .least .result) (l .next) (omega arith) (ends cut) (take (l .at) (l .out)) (so-far .run) _ (refused-there .0) in
+    let outcome = stops (g .way) (g .number) (g .bytes .now) (l .from) (cut .least .result) (l .next) (omega arith) (ends cut) (take (l .at) (l .out)) (so-far .outcome) _ (refused-there .0) in
     record {
       counts = subst (Counts (l .at)) (sym same) (l .inv .2);
-      given = ap (take (l .at)) same ∙ ap (λ (o : Outcome). o .given) run;
-      end = ap (λ (o : Outcome). o .end) run;
-      on = λ e. never (ap (λ (o : Outcome). o .end) run ∙ e);
+      given = ap (take (l .at)) same ∙ ap (λ (o : Outcome). o .given) outcome;
+      end = ap (λ (o : Outcome). o .end) outcome;
+      on = λ e. never (ap (λ (o : Outcome). o .end) outcome ∙ e);
       in-range = so-far .in-reach;
     }
 
@@ -180,10 +180,10 @@ loop-again c =
           record {
             in-reach = omega (arith, not-last told);
             room = λ h. omega (arith, room, more, put .few, ends cut, enough (g .way));
-            run =
+            outcome =
                 ap (λ (b : List ℕ). before b (blocksOf (g .way) (l .next + 1) (drop (cut .least .result) bytes))) all
                 ∙ ap (λ (n : ℕ). before (take (l .at) (l .out) ++ put .given) (blocksOf (g .way) n (drop (cut .least .result) bytes))) one
-                ∙ goes-on (g .way) (g .number) bytes (l .from) (cut .least .result) (l .next) (omega arith) (ends cut) (take (l .at) (l .out)) (so-far .run) (put .given) (put .took);
+                ∙ goes-on (g .way) (g .number) bytes (l .from) (cut .least .result) (l .next) (omega arith) (ends cut) (take (l .at) (l .out)) (so-far .outcome) (put .given) (put .took);
           },
     )
 
@@ -197,11 +197,11 @@ returns-2 c =
     in
     λ piece.
     let so-far = l .inv .4 piece in
-    let run = all-done (g .way) (g .number) (g .bytes .now) (l .from) (l .next) (take (l .at) (l .out)) (omega arith) (so-far .run) in
+    let outcome = all-done (g .way) (g .number) (g .bytes .now) (l .from) (l .next) (take (l .at) (l .out)) (omega arith) (so-far .outcome) in
     record {
       counts = l .inv .2;
-      given = ap (λ (o : Outcome). o .given) run;
-      end = ap (λ (o : Outcome). o .end) run;
+      given = ap (λ (o : Outcome). o .given) outcome;
+      end = ap (λ (o : Outcome). o .end) outcome;
       on = λ e. omega (arith, none, l .inv .3);
       in-range = so-far .in-reach;
     }
