@@ -5,7 +5,7 @@ room uses which.
 A room is the first word of its crates' names; a comment `# ROOM: ..` in crates.txt says what it holds.
 A room stands above all that it uses. Left out are arrows that others imply, those to `law`, which every
 room uses, and those of `examples`, which uses nearly every one. A crate in italics has no code. Where a
-room stands is chosen here. Python 3's standard library alone.
+room stands is chosen here; one that is too wide moves those to its right. Python 3's standard library alone.
 
     docs/draw_architecture.py            writes the picture
     docs/draw_architecture.py --check    says whether it is the one that would be written
@@ -71,15 +71,16 @@ def boxes(uses, says):
     """Each room's box: left, top, width, height, its crates in columns."""
     found, top = {}, EDGE
     for row in ROWS:
-        tallest = 0
+        tallest = free = 0
         for name, left in row:
+            left = max(left, free)
             crates = [c for c in uses if room(c) == name]
             columns = min(ACROSS, max(1, (len(crates) + 2) // 3))
             deep = -(-len(crates) // columns)
             width = max(columns * COLUMN, 62 * len(says.get(name, "")) // 10) + EDGE
             height = 2 * LINE + 10 + deep * LINE
             found[name] = (left, top, width, height, [crates[k * deep:(k + 1) * deep] for k in range(columns)])
-            tallest = max(tallest, height)
+            tallest, free = max(tallest, height), left + width + EDGE
         top += tallest + GAP
     missing = {room(c) for c in uses} ^ set(found)
     if missing:
