@@ -90,12 +90,15 @@ unread() { # WORD INPUT
     fi
 }
 
+# The programs are for x86-64; elsewhere they run under an emulator.
+is_native() { [ "$(uname -m)" = x86_64 ]; }
+
 # Sets $memory to how much a program may have in a test of what it holds, in KiB: 16 MiB. Where the programs run
 # under an emulator, which takes more by itself, it is a step more than the least with which the program $1
 # answers an input of no bytes, twenty times.
 little_memory() { # PROGRAM
     memory=16384
-    [ "$(uname -m)" != x86_64 ] || return 0
+    ! is_native || return 0
     until twenty sh -c 'ulimit -v "$1" && exec "$2" </dev/null >/dev/null' sh $memory "$programs/$1" 2>/dev/null; do
         memory=$((memory + 4096))
         [ $memory -lt 1048576 ] || {
