@@ -10,129 +10,29 @@
 use answer_call::Answer;
 use index_choice::index_of;
 use index_coefficients::coefficient_of;
+use io_expected::coefficients_compared;
+use io_expected::compared;
+use io_expected::float_of;
+use io_expected::given;
+use io_expected::given_line;
+use io_expected::indices_of;
+use io_expected::labelled;
+use io_expected::line_compared;
+use io_expected::lines_compared;
+use io_expected::orders_of;
+use io_expected::read_lines;
+use io_expected::say;
+use io_expected::side_compared;
+use io_expected::states_compared;
+use io_expected::states_of;
+use io_expected::two_words;
 use law_numbers::least;
-use libc::STDOUT_FILENO;
 use tns::tns_cost;
 use tns::tns_decode;
 use tns::tns_decode_restart;
 use tns::tns_decode_save;
 use tns::tns_encode;
-ghost use mathlib.Core.Path.{_≡_};
-ghost use Prim.Native.Nat.{_+_, _*_, _<_, _≤_};
-ghost use lib.Ieee.{binary32, ofBits, toBits};
-
-// The f32 of a bit pattern. Every NaN pattern gives a NaN, whose own bits the language leaves open.
-fn float_of(pattern: u32) -> f32
-    ensures { λ r. ⌜ r ≡ ofBits binary32 pattern ⌝ }
-{
-    if pattern % 0x8000_0000 > 0x7f80_0000 {
-        return 0.0 / 0.0;
-    }
-    f32::from_bits(pattern)
-}
-
-// The bit pattern of an f32. One pattern stands for every NaN.
-fn pattern_of(x: f32) -> u32
-    ensures { λ r. ⌜ r ≡ toBits binary32 x ⌝ }
-{
-    if x != x {
-        return 0x7fc0_0000;
-    }
-    f32::to_bits(x)
-}
-
-// The number of four bytes, low byte first.
-fn word(a: u8, b: u8, c: u8, d: u8) -> u32
-    ensures { λ r. ⌜ r ≡ a + 256 * b + 65536 * c + 16777216 * d ⌝ }
-{
-    a as u32 + 256 * (b as u32) + 65536 * (c as u32) + 16777216 * (d as u32)
-}
-
-// The next word of a list, or 2^64 - 1 where the list ends before it does.
-fn next(list: i32) -> u64 {
-    let mut bytes = [0u8; 4];
-    if io::read_full(list, &mut bytes) < 4 {
-        return u64::MAX;
-    }
-    word(bytes[0], bytes[1], bytes[2], bytes[3]) as u64
-}
-
-// The next word of a call. One that is not there is 0: the answer after it is not there either.
-fn given(list: i32) -> u32 {
-    let word = next(list);
-    if word > 0xffff_ffff {
-        return 0;
-    }
-    word as u32
-}
-
-fn given_line(list: i32) -> f32 {
-    float_of(given(list))
-}
-
-fn read_lines(list: i32, lines: &mut [f32]) {
-    for i in 0..lines.len() {
-        lines[i] = given_line(list);
-    }
-}
-
-fn put(text: &[u8]) {
-    io::write_all(STDOUT_FILENO, text);
-}
-
-fn labelled(label: &[u8], n: u64) {
-    put(label);
-    io::print_decimal(STDOUT_FILENO, n);
-}
-
-// Says of a record's first number that differs what it is to be and what it is.
-fn differs(expected: u64, found: u64) {
-    labelled(b"expected ", expected);
-    labelled(b", found ", found);
-}
-
-// Whether a record differs: in an earlier number, or in this one of its answer, which the next word
-// must be.
-fn compared(list: i32, found: u64, earlier: bool) -> bool {
-    let expected = next(list);
-    if earlier || expected == found {
-        return earlier;
-    }
-    differs(expected, found);
-    true
-}
-
-fn byte_compared(list: i32, found: u8, earlier: bool) -> bool {
-    compared(list, found as u64, earlier)
-}
-
-fn line_compared(list: i32, found: f32, earlier: bool) -> bool {
-    compared(list, pattern_of(found) as u64, earlier)
-}
-
-fn side_compared(list: i32, found: [u8; 20], earlier: bool) -> bool {
-    let mut different = earlier;
-    for i in 0..20usize {
-        different = byte_compared(list, found[i], different);
-    }
-    different
-}
-
-fn lines_compared(list: i32, found: &[f32], earlier: bool) -> bool {
-    let mut different = earlier;
-    for i in 0..found.len() {
-        different = line_compared(list, found[i], different);
-    }
-    different
-}
-
-fn coefficients_compared(list: i32, found: [f32; 16], earlier: bool) -> bool {
-    lines_compared(list, &found, earlier)
-}
-
-fn states_compared(list: i32, found: [f32; 8], earlier: bool) -> bool {
-    lines_compared(list, &found, earlier)
-}
+ghost use Prim.Native.Nat.{_+_, _<_, _≤_};
 
 fn answer_compared(list: i32, found: Answer) -> bool {
     let a = compared(list, found.refusal as u64, false);
@@ -152,12 +52,6 @@ fn index_compared(list: i32) -> bool {
     };
     let a = answer_compared(list, answer);
     line_compared(list, coefficient_of(index), a)
-}
-
-// The two words of a number of 64 bits, low word first: a bit number, or a line.
-fn two_words(list: i32) -> u64 {
-    let low = given(list) as u64;
-    low + 4294967296 * (given(list) as u64)
 }
 
 // A head: the call, its numbers, and how many orders and indices it has.
@@ -206,18 +100,6 @@ fn answered(call: Call, orders: &[u8], indices: &[u8], lines: &mut [f32]) -> Ans
     )
 }
 
-fn orders_of(list: i32) -> [u8; 3] {
-    let mut orders = [0u8; 3];
-    io::read_full(list, &mut orders);
-    orders
-}
-
-fn indices_of(list: i32) -> [u8; 17] {
-    let mut indices = [0u8; 17];
-    io::read_full(list, &mut indices);
-    indices
-}
-
 // The same with the record's orders and indices.
 fn lists_answered(list: i32, call: Call, lines: &mut [f32]) -> Answer {
     let orders = orders_of(list);
@@ -240,12 +122,6 @@ fn replayed(list: i32, call: Call, lines: &mut [f32]) -> bool {
     read_lines(list, lines);
     let a = call_compared(list, call, lines);
     lines_compared(list, lines, a)
-}
-
-fn states_of(list: i32) -> [f32; 8] {
-    let mut states = [0.0f32; 8];
-    read_lines(list, &mut states);
-    states
 }
 
 // The answer to a save or restart record.
@@ -337,7 +213,7 @@ fn beyond(call: Call, lines: usize) -> bool {
 }
 
 fn out_of_range() -> bool {
-    put(b"a call or a count beyond its range");
+    say(b"a call or a count beyond its range");
     true
 }
 
@@ -379,16 +255,16 @@ fn counted(differences: u64, number: u64, different: bool) -> u64
         return differences;
     }
     labelled(b" in record ", number);
-    put(b"\n");
+    say(b"\n");
     differences + 1
 }
 
 // A list's last line.
 fn report(name: &[u8], records: u64, differences: u64) {
-    put(name);
+    say(name);
     labelled(b": ", records);
     labelled(b" records, ", differences);
-    put(b" differences\n");
+    say(b" differences\n");
 }
 
 // All records of an open list.

@@ -1,4 +1,4 @@
--- `replay::main` ends: it takes each argument once.
+-- `prog_replay::main` ends: it takes each argument once.
 use Prim.Native.Nat.{_-_}
 use borrow.Author.Needs.{needs}
 use Rattle.prog_replay.proofs.main.Statement.{statement}

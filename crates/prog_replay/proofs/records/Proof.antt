@@ -1,4 +1,4 @@
--- `replay::records` ends and its counts do not wrap: no more records differ than there are.
+-- `prog_replay::records` ends and its counts do not wrap: no more records differ than there are.
 use Prim.Native.Nat.{_-_, _≤_}
 use borrow.Author.Needs.{needs}
 use Rattle.prog_replay.proofs.records.Statement.{statement}
