@@ -1,7 +1,7 @@
 // Paths of files as bytes: as C takes one, its folder, and the name under which a file is made beside it.
 // It knows nothing of what the system does with a name.
 use text_put::put;
-use text_put::put_decimal;
+use text_put::put_numbered;
 ghost use Rattle.io.specs.Counts.{Counts};
 ghost use Rattle.libc.specs.Io.{Ended};
 
@@ -39,7 +39,6 @@ pub fn part_name(path: &[u8], number: u64, name: &mut [u8]) -> usize
 {
     let folder = folder_of(path);
     let placed = put(&path[..folder], name, 0);
-    let begun = put(b"tns-rescue-", name, placed);
-    let numbered = put_decimal(number, name, begun);
+    let numbered = put_numbered(b"tns-rescue-", number, name, placed);
     put(b".part", name, numbered)
 }

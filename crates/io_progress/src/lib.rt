@@ -3,7 +3,7 @@
 // What stands on a terminal, and what the clock says, cannot be promised.
 use libc::STDERR_FILENO;
 use text_put::put;
-use text_put::put_decimal;
+use text_put::put_numbered;
 ghost use Rattle.io.specs.Counts.{Counts};
 
 // What is known of a run: whether its progress is shown, how large its file is, the second in which it
@@ -47,8 +47,7 @@ pub fn of_file(descriptor: i32) -> Progress {
 
 fn show(percent: u64) {
     let mut text = [0u8; 32];
-    let begun = put(b"\rtns: ", &mut text, 0);
-    let numbered = put_decimal(percent, &mut text, begun);
+    let numbered = put_numbered(b"\rtns: ", percent, &mut text, 0);
     let count = put(b"%", &mut text, numbered);
     io::write_all(STDERR_FILENO, &text[..count]);
 }

@@ -5,6 +5,7 @@ use cost_bytes::BytesAnswer;
 use cost_call::CostAnswer;
 use text_put::put;
 use text_put::put_decimal;
+use text_put::put_numbered;
 ghost use Rattle.check_verdicts.specs.Verdicts.{numbered, placed, refused};
 ghost use Rattle.check_refusals.specs.Refusals.{says};
 ghost use Rattle.cost_call.specs.Cost.{costSays};
@@ -16,16 +17,14 @@ ghost use Rattle.text_answers.specs.Wording.{answerText, sayingText, lin
 pub fn put_number(number: u8, out: &mut [u8], at: usize) -> usize
     ensures { λ r. ⌜ Puts (answerText (refused (numbered number))) (now (out .entry)) at r (now (out .exit)) ⌝ }
 {
-    let named = put(b"refused ", out, at);
-    put_decimal(number as u64, out, named)
+    put_numbered(b"refused ", number as u64, out, at)
 }
 
 fn put_place(number: u8, place: usize, out: &mut [u8], at: usize) -> usize
     ensures { λ r. ⌜ Puts (answerText (refused (placed number place 0))) (now (out .entry)) at r (now (out .exit)) ⌝ }
 {
     let numbered = put_number(number, out, at);
-    let placed = put(b" at ", out, numbered);
-    put_decimal(place as u64, out, placed)
+    put_numbered(b" at ", place as u64, out, numbered)
 }
 
 // Refusals 6 and 7 end with their place, the others after their number.
@@ -66,8 +65,7 @@ fn put_saying(bytes: &[u8], out: &mut [u8], at: usize) -> usize
 pub fn put_line(frame: u64, bytes: &[u8], out: &mut [u8], at: usize) -> usize
     ensures { λ r. ⌜ Puts (lineText frame (lineOf (now (bytes .entry)))) (now (out .entry)) at r (now (out .exit)) ⌝ }
 {
-    let named = put(b"frame ", out, at);
-    let numbered = put_decimal(frame, out, named);
+    let numbered = put_numbered(b"frame ", frame, out, at);
     let begun = put(b": ", out, numbered);
     let said = put_saying(bytes, out, begun);
     put(b"\n", out, said)

@@ -57,6 +57,12 @@ puts-on first second found between left before middle count p q r =
           ∙ after-after room (take before found) first second;
     }
 
+-- and a text with a number behind it, as `put_numbered` puts it
+pub puts-numbered : (first text number found between left : List ℕ) (before middle count : ℕ) → Puts first found before middle between → Puts (text ++ number) between middle count left
+    → length between ≡ length found → Puts (first ++ text ++ number) found before count left
+puts-numbered first text number found between left before middle count p q r =
+    puts-same (sym (append-assoc first text number)) (puts-on first (text ++ number) found between left before middle count p q r)
+
 -- A contract that speaks of a text fixes how many bytes there are, too: any two counts that it allows are the text's length.
 pub counted : (count : ℕ) (out text : List ℕ) → Counts count out → take count out ≡ text → count ≡ length text
 counted count out text c e = c .1 ∙ ap length e

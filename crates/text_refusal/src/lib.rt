@@ -2,7 +2,7 @@
 // room for is left out, as text_put does.
 use text_answers::put_number;
 use text_put::put;
-use text_put::put_decimal;
+use text_put::put_numbered;
 ghost use Rattle.text_put.specs.Text.{Puts};
 ghost use Rattle.text_refusal.specs.RefusalText.{blockRefusalText};
 
@@ -11,7 +11,6 @@ pub fn put_block_refusal(refusal: u8, block: u64, out: &mut [u8], at: usize) -> 
     ensures { λ r. ⌜ Puts (blockRefusalText refusal block) (now (out .entry)) at r (now (out .exit)) ⌝ }
 {
     let numbered = put_number(refusal, out, at);
-    let named = put(b" at block ", out, numbered);
-    let placed = put_decimal(block, out, named);
+    let placed = put_numbered(b" at block ", block, out, numbered);
     put(b"\n", out, placed)
 }

@@ -1,38 +1,29 @@
 // The lines of a rescue's report, put into a text one after the other.
 use text_put::put;
 use text_put::put_decimal;
+use text_put::put_numbered;
 ghost use Rattle.check_verdicts.specs.Verdicts.{numbered};
 ghost use Rattle.text_put.specs.Text.{Puts};
 ghost use Rattle.file_rescued.specs.Rescues.{dropped, moved, stray, keptEntries, leftEntries};
-ghost use Rattle.text_report.specs.ReportText.{blockText, entryText, reportText};
-
-fn put_block(place: u64, out: &mut [u8], at: usize) -> usize
-    ensures { λ r. ⌜ Puts (blockText place) (now (out .entry)) at r (now (out .exit)) ⌝ }
-{
-    let named = put(b"block ", out, at);
-    put_decimal(place, out, named)
-}
+ghost use Rattle.text_report.specs.ReportText.{entryText, reportText};
 
 // A block that is dropped, with its fault.
 fn put_dropped(place: u64, fault: u8, out: &mut [u8], at: usize) -> usize
     ensures { λ r. ⌜ Puts (entryText (dropped place (numbered fault))) (now (out .entry)) at r (now (out .exit)) ⌝ }
 {
-    let placed = put_block(place, out, at);
-    let said = put(b" dropped ", out, placed);
-    let numbered = put_decimal(fault as u64, out, said);
-    put(b"\n", out, numbered)
+    let placed = put_numbered(b"block ", place, out, at);
+    let said = put_numbered(b" dropped ", fault as u64, out, placed);
+    put(b"\n", out, said)
 }
 
 // A block that is renumbered.
 fn put_moved(place: u64, old: u64, new: u64, out: &mut [u8], at: usize) -> usize
     ensures { λ r. ⌜ Puts (entryText (moved place old new)) (now (out .entry)) at r (now (out .exit)) ⌝ }
 {
-    let placed = put_block(place, out, at);
-    let said = put(b" renumbered ", out, placed);
-    let from = put_decimal(old, out, said);
-    let to = put(b" to ", out, from);
-    let numbered = put_decimal(new, out, to);
-    put(b"\n", out, numbered)
+    let placed = put_numbered(b"block ", place, out, at);
+    let from = put_numbered(b" renumbered ", old, out, placed);
+    let to = put_numbered(b" to ", new, out, from);
+    put(b"\n", out, to)
 }
 
 // A block that is kept: nothing where it has its old number.

@@ -15,22 +15,19 @@ returns c =
     let saying = end .before .before .before .before .before in
     let colon = saying .before .before .before .before in
     let number = colon .before .before .before .before .before in
-    let word = number .before .before .before .before in
-    let g = word .before .before .before .before .before .args in
+    let g = number .before .before .before .before .before .args in
     let found = g .out .now in
     let frame = decimal (g .frame) in
     let said = sayingText (lineOf (g .bytes .now)) in
-    let numbered = puts-on (ascii "frame ") frame found _ _ (g .at) _ _ (word .put .ensures) (number .put-decimal .ensures) (omega arith) in
-    let begun = puts-on (ascii "frame " ++ frame) (ascii ": ") found _ _ (g .at) _ _ numbered (colon .put2 .ensures) (omega arith) in
+    let begun = puts-on (ascii "frame " ++ frame) (ascii ": ") found _ _ (g .at) _ _ (number .put-numbered .ensures) (colon .put .ensures) (omega arith) in
     let answered = puts-on (ascii "frame " ++ frame ++ ascii ": ") said found _ _ (g .at) _ _ begun (saying .put-saying .ensures) (omega arith) in
-    puts-on (ascii "frame " ++ frame ++ ascii ": " ++ said) (ascii "\n") found _ _ (g .at) _ _ answered (end .put3 .ensures) (omega arith)
+    puts-on (ascii "frame " ++ frame ++ ascii ": " ++ said) (ascii "\n") found _ _ (g .at) _ _ answered (end .put2 .ensures) (omega arith)
 
 pub put-line-spec : {M : Type 1} → statement M
 put-line-spec =
     tie.close
     (tie.spec
     (λ c. search needs)
-    (λ c κs. search needs)
     (λ c κs. search needs)
     (λ c. search needs)
     (λ c κs. search needs)

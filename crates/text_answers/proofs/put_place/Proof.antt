@@ -1,8 +1,7 @@
--- The refusal's number, a word and the place, one after the other.
-use mathlib.Core.List.{_++_}
+-- The refusal's number, and a word with the place, one after the other.
 use native.Mathlib.Omega.{arith}
 use Rattle.text_put.specs.Text.{ascii, decimal}
-use Rattle.text_put.proofs.Texts.{puts-on}
+use Rattle.text_put.proofs.Texts.{puts-numbered}
 use Rattle.check_verdicts.specs.Verdicts.{numbered, refused}
 use Rattle.text_answers.specs.Wording.{answerText}
 use borrow.Author.Needs.{needs}
@@ -12,12 +11,10 @@ use Rattle.text_answers.proofs.put_place.Tie as tie
 returns : tie.Need-returns
 returns c =
     let place = c .before .before in
-    let word = place .before .before .before .before in
-    let number = word .before .before .before .before .before in
+    let number = place .before .before .before .before .before in
     let g = number .before .before .before .args in
-    let said = answerText (refused (numbered (g .number))) in
-    let begun = puts-on said (ascii " at ") (g .out .now) _ _ (g .at) _ _ (number .put-number .ensures) (word .put .ensures) (omega arith) in
-    puts-on (said ++ ascii " at ") (decimal (g .place)) (g .out .now) _ _ (g .at) _ _ begun (place .put-decimal .ensures) (omega arith)
+    puts-numbered (answerText (refused (numbered (g .number)))) (ascii " at ") (decimal (g .place)) (g .out .now) _ _ (g .at) _ _ (number .put-number .ensures) (place .put-numbered .ensures)
+    (omega arith)
 
 pub put-place-spec : {M : Type 1} → statement M
 put-place-spec =
@@ -25,7 +22,6 @@ put-place-spec =
     (tie.spec
     (λ c κs. search needs)
     (λ c. search needs)
-    (λ c κs. search needs)
     (λ c κs. search needs)
     (λ c. search needs)
     returns)
