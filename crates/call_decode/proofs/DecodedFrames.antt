@@ -10,8 +10,8 @@ use Rattle.check_refusals.specs.declared.Refusal.{Refusal}
 use Rattle.row_durations.specs.Durations.{durationOf}
 use Rattle.row_bands.specs.Bands.{rowOf}
 use Rattle.row_bands.specs.declared.Row.{Row}
-use Rattle.check_line.specs.CodedFrames.{CodedFrame, checksOf}
-use Rattle.check_line.proofs.CodedFrames.{PassedFrame, left-alone, written}
+use Rattle.check_coded.specs.CodedFrames.{CodedFrame, checksOf}
+use Rattle.check_coded.proofs.CodedFrames.{PassedFrame, left-alone, written}
 use Rattle.side_decoded.specs.DecoderFilters.{rowDecoded}
 use Rattle.call_decode.specs.Decoder.{decodeChecks, spectrumDecoded, Decodes}
 use Rattle.call_decode.specs.declared.DecodeAnswer.{DecodeAnswer}

@@ -8,7 +8,7 @@ use Rattle.check_verdicts.specs.Verdicts.{Verdict, refused, unlessRefused, noFa
 use Rattle.check_refusals.specs.Refusals.{says}
 use Rattle.row_durations.specs.Durations.{durationOf}
 use Rattle.row_bands.specs.Bands.{rowOf}
-use Rattle.check_line.specs.LineChecks.{callChecks}
+use Rattle.check_coded.specs.CodedFrames.{callChecks}
 use Rattle.side_decoded.specs.DecoderFilters.{rowDecoded}
 use Rattle.call_decode.specs.declared.DecodeAnswer.{DecodeAnswer}
 use Rattle.call_decode.specs.declared.DecodeAnswer.the-variants.{Decoded, Refused}

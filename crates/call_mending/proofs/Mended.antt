@@ -15,8 +15,9 @@ use Rattle.row_durations.specs.Durations.{durationOf}
 use Rattle.row_bands.specs.Bands.{rowOf, bandOf}
 use Rattle.row_bands.specs.declared.Row.{Row}
 use Rattle.row_bands.proofs.Bands.{SoundRow}
-use Rattle.check_line.specs.CodedFrames.{CodedFrame, rowIn, checksAtLine}
-use Rattle.check_line.proofs.CodedFrames.{written}
+use Rattle.check_coded.specs.CodedFrames.{CodedFrame, rowIn}
+use Rattle.check_line.specs.LineChecks.{checksAtLine}
+use Rattle.check_coded.proofs.CodedFrames.{written}
 use Rattle.check_line.proofs.LineChecks.{PassedLine, passed-at-line}
 use Rattle.lattice_lines.specs.Lattice.{atRest}
 use Rattle.lattice_decoder.specs.DecoderLattice.{lineDecoded}

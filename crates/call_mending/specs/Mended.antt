@@ -6,7 +6,7 @@ use lib.Ieee.{Float}
 use lib.ListN.{length, getD, take, drop}
 use Rattle.row_durations.specs.Durations.{durationOf}
 use Rattle.row_bands.specs.Bands.{rowOf, bandOf}
-use Rattle.check_line.specs.CodedFrames.{CodedFrame}
+use Rattle.check_coded.specs.CodedFrames.{CodedFrame}
 use Rattle.lattice_rows.specs.Split.{Begins}
 use Rattle.call_decode.specs.Decoder.{spectrumDecoded}
 

@@ -7,10 +7,10 @@ use lib.Ieee.{Float}
 use lib.ListN.{length, take}
 use Rattle.check_verdicts.specs.Verdicts.{refused}
 use Rattle.row_bands.specs.declared.Row.{Row}
-use Rattle.check_line.specs.LineChecks.{lineSays}
-use Rattle.check_line.specs.CodedFrames.{CodedFrame, checksAtLine}
+use Rattle.check_coded.specs.CodedFrames.{CodedFrame}
+use Rattle.check_line.specs.LineChecks.{checksAtLine, lineSays}
 use Rattle.check_line.specs.declared.LineRefusal.{LineRefusal}
-use Rattle.check_line.proofs.CodedFrames.{left-alone, written}
+use Rattle.check_coded.proofs.CodedFrames.{left-alone, written}
 use Rattle.check_line.proofs.LineChecks.{PassedLine}
 use Rattle.side_split.specs.SplitRun.{statesBefore, linesFrom, SavedRow}
 use Rattle.call_decode.proofs.DecodedFrames.{row-as-spectrum}

@@ -1,4 +1,3 @@
 -- The laws that belong to no one function.
-pub mod CodedFrames
 pub mod LineChecks
 pub mod Determined

@@ -16,12 +16,12 @@ use Rattle.row_bands.specs.Bands.{lastStop}
 use Rattle.row_bands.specs.declared.Row.{Row}
 use Rattle.row_bands.proofs.Bands.{SoundRow}
 use Rattle.row_bands.proofs.Apart.{InTurn, row-in-turn}
-use Rattle.check_line.specs.LineChecks.{lineChecks, lineCallChecks, lineSays, lineCheckSays}
-use Rattle.check_line.specs.CodedFrames.{CodedFrame, rowIn, checksOf, checksAtLine}
+use Rattle.check_coded.specs.CodedFrames.{CodedFrame, rowIn, checksOf}
+use Rattle.check_coded.proofs.CodedFrames.{PassedFrame, passed-checks}
+use Rattle.check_line.specs.LineChecks.{lineChecks, lineCallChecks, checksAtLine, lineSays, lineCheckSays}
 use Rattle.check_line.specs.declared.LineRefusal.{LineRefusal}
 use Rattle.check_line.specs.declared.LineCheck.{LineCheck}
 use Rattle.check_line.specs.declared.LineCheck.the-variants.{Sound, Refused}
-use Rattle.check_line.proofs.CodedFrames.{PassedFrame, passed-checks}
 
 -- what is known of a line and an output that they find no fault with
 pub record SoundLine (row : Row) (lines n output : ℕ) : Type 0 where

@@ -1,3 +1,2 @@
--- What a reader has to believe of the checks of the decode calls.
+-- What a reader has to believe of the checks of a call at a line.
 pub mod LineChecks
-pub mod CodedFrames

@@ -1,23 +1,19 @@
--- Document 01, "Refusal numbers", and request C-22: what a decode call checks. All have refusals 1 to 7; a call at a line has 16 and 17 after them.
+-- Document 01, "Refusal numbers", and request C-22: what a call at a line checks, 16 and 17 after the refusals 1 to 7 of every decode call.
 use mathlib.Core.Bool.{_||_, not}
 use mathlib.Core.List.{List}
 use Prim.Native.Nat.{ℕ}
 use lib.Dec.{ltb, eqb}
+use lib.ListN.{length}
 use Rattle.check_verdicts.specs.Verdicts.{Fault, numbered, Verdict, refused, noFault, check}
 use Rattle.check_refusals.specs.Refusals.{says}
-use Rattle.check_side.specs.Sides.{sideChecks}
 use Rattle.row_durations.specs.Durations.{durationOf}
 use Rattle.row_bands.specs.Bands.{rowOf, lastStop}
 use Rattle.row_bands.specs.declared.Row.{Row}
-use Rattle.check_frame.specs.Frames.{frameChecks}
+use Rattle.check_coded.specs.CodedFrames.{CodedFrame, callChecks}
 use Rattle.check_line.specs.declared.LineRefusal.{LineRefusal}
 use Rattle.check_line.specs.declared.LineRefusal.the-variants.{Call, Line, OutputLength}
 use Rattle.check_line.specs.declared.LineCheck.{LineCheck}
 use Rattle.check_line.specs.declared.LineCheck.the-variants.{Sound, Refused}
-
--- refusals 1 to 7, in number order, for a spectrum of so many lines
-abbrev pub callChecks : {A : Type 0} → ℕ → ℕ → ℕ → List ℕ → List ℕ → ℕ → Verdict A → Verdict A
-callChecks duration bandwidth filters orders indices lines next = frameChecks duration bandwidth lines (sideChecks filters orders indices next)
 
 -- 16: line n below the row's first start, or over its last stop. 17: an output of another length than the spectrum
 abbrev pub lineChecks : {A : Type 0} → Row → ℕ → ℕ → ℕ → Verdict A → Verdict A
@@ -32,6 +28,10 @@ lineCallChecks duration bandwidth filters orders indices lines n output =
     callChecks duration bandwidth filters orders indices lines
     (lineChecks (rowOf (durationOf duration) bandwidth) lines n output
     noFault)
+
+-- the same of a frame with its side data
+abbrev pub checksAtLine : CodedFrame → ℕ → ℕ → Verdict (Unit {0})
+checksAtLine f n output = lineCallChecks (f .duration) (f .bandwidth) (f .filters) (f .orders) (f .indices) (length (f .spectrum)) n output
 
 -- the number, and for 6 and 7 the place and the found value, of each refusal of a call at a line
 abbrev pub lineSays : LineRefusal → Fault

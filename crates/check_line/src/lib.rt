@@ -1,6 +1,5 @@
-// What the decode calls check. Refusals 1 to 7 are those of all of them: their definition and their law over a
-// frame with its side data (`CodedFrame`) stand here once, for decode, save and restart. The code here is
-// what a call at a line checks after them: 16 and 17.
+// What a call at a line checks after refusals 1 to 7, which are those of every decode call (check_coded): 16
+// and 17.
 use check_refusals::Refusal;
 use row_bands::Row;
 use row_bands::last_stop;

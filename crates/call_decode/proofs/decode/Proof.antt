@@ -1,7 +1,7 @@
 -- A frame that is refused, side data that are refused, or the decoded spectrum.
 use borrow.Author.Needs.{needs}
-use Rattle.check_line.specs.CodedFrames.{CodedFrame}
-use Rattle.check_line.proofs.CodedFrames.{PassedFrame, frame-refuses, side-refuses, passes}
+use Rattle.check_coded.specs.CodedFrames.{CodedFrame}
+use Rattle.check_coded.proofs.CodedFrames.{PassedFrame, frame-refuses, side-refuses, passes}
 use Rattle.call_decode.proofs.DecodedFrames.{refused-decode, decoded}
 use Rattle.call_decode.proofs.decode.Statement.{statement}
 use Rattle.call_decode.proofs.decode.Tie as tie

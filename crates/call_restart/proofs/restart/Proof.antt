@@ -1,8 +1,8 @@
 -- A frame, side data, a line or an output that is refused; or the lines from the line on.
 use borrow.Author.Needs.{needs}
 use lib.ListN.{length}
-use Rattle.check_line.specs.CodedFrames.{CodedFrame}
-use Rattle.check_line.proofs.CodedFrames.{PassedFrame, frame-refuses, side-refuses, passes}
+use Rattle.check_coded.specs.CodedFrames.{CodedFrame}
+use Rattle.check_coded.proofs.CodedFrames.{PassedFrame, frame-refuses, side-refuses, passes}
 use Rattle.check_line.proofs.LineChecks.{PassedLine, refused-at-line, line-refuses, line-passes}
 use Rattle.call_restart.proofs.SplitFrames.{refused-restart, restarted}
 use Rattle.call_restart.proofs.restart.Statement.{statement}

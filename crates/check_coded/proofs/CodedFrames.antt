@@ -17,7 +17,7 @@ use Rattle.check_frame.specs.Frames.{frameChecks, frameOf, frameSays}
 use Rattle.check_frame.specs.declared.FrameAnswer.{FrameAnswer}
 use Rattle.check_frame.specs.declared.FrameAnswer.the-variants as frame
 use Rattle.check_frame.proofs.Frames.{frames-settle, refused-frame, passed-frame, sound-row, accepted-row}
-use Rattle.check_line.specs.CodedFrames.{CodedFrame, rowIn, checksOf}
+use Rattle.check_coded.specs.CodedFrames.{CodedFrame, rowIn, checksOf}
 
 -- ---- what a call leaves
 
