@@ -26,7 +26,8 @@ pub fn all_sound(bytes: &[u8]) -> bool
     true
 }
 
-// Whether both sums are those of the bytes before them.
+// Whether both sums are those of the bytes before them. This and the next three require the 512 bytes of a
+// block, as the heading says.
 pub fn are_sums_right(block: &[u8]) -> bool
     requires { ⌜ length (now block) ≡ 512 ⌝ }
     ensures { λ r. ⌜ r ≡ sumsRight (now (block .entry)) ⌝ }

@@ -168,7 +168,8 @@ pub const AC_TNS_COEF_BITS: [[u16; 17]; 8] = [
     ],
 ];
 
-// One lookup serves the three order tables, whose columns begin at order 1.
+// One lookup serves the three order tables, whose columns begin at order 1. It requires a table of its rows
+// and columns, as the next does (see the heading).
 pub fn of_order(table: &[[u16; 8]; 2], weighting: u8, order: u8) -> u16
     requires { ⌜ (length (now table) ≡ 2) × (wide 8 (now table) ≡ true) ⌝ }
     ensures { λ r. ⌜ r ≡ ofOrder (now (table .entry)) weighting order ⌝ }

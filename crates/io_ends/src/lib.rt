@@ -37,7 +37,8 @@ fn tell(put: Done) {
     refuse(&line[..count]);
 }
 
-// Writes what was put, and then tells the refusal, if there is one. Answers whether to go on.
+// Writes what was put, and then tells the refusal, if there is one. Answers whether to go on. It requires
+// that no more was put than the output has (see the heading).
 pub fn settled(put: Done, out: &[u8]) -> bool
     requires { ⌜ put .count ≤ length (now out) ⌝ }
     ensures { λ r. ⌜ (r ≡ true → endOf (put .ended) (put .next) ≡ whole) ⌝ }

@@ -26,6 +26,11 @@ pub fn complain_of(name: &[u8], what: &[u8]) {
     complain(&text[..count]);
 }
 
+// Says of a file that it is another than it was when it was first read.
+pub fn complain_of_change(name: &[u8]) {
+    complain_of(name, b": changed while it was read\n");
+}
+
 // Whether nothing has this name yet, not even a link to nothing. A link can be read; of anything else that
 // is there the system says that it is none. What stands in the way is said.
 pub fn is_free(path: &[u8]) -> bool {

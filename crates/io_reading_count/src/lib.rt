@@ -1,5 +1,9 @@
 // The first reading of a damaged file, in pieces of a fixed size: it counts the blocks to keep, so that
 // nothing is written where there are too many.
+//
+// The inner functions have a `requires`: the size of the piece, counts that leave room for those of one more,
+// less than a block held. So `count_pass` begins, and so each turn is proved to leave it, for as many turns as
+// it makes. That a read stays within its piece is a promise of io_streams.
 use file_kept::count_kept;
 use io_progress::Progress;
 use io_progress::erase;

@@ -1,7 +1,12 @@
 // The second reading of a damaged file, in pieces of a fixed size: it writes what the blocks become, and
 // says the report.
+//
+// The inner functions have a `requires`: the sizes of the three pieces, a place and a number that leave room
+// for those of one more, less than a block held, and for `is_put` no more put than its pieces have. So
+// `mend_pass` begins, and so each turn is proved to leave it, for as many turns as it makes. That a read stays
+// within its piece is a promise of io_streams, and what was put is counted by io_rescue's.
 use file_kept::count_kept;
-use io_names::complain_of;
+use io_names::complain_of_change;
 use io_progress::Progress;
 use io_progress::erase;
 use io_progress::put_name;
@@ -128,7 +133,7 @@ fn piece_mended(
         );
     }
     erase(shows);
-    complain_of(name, b": changed while it was read\n");
+    complain_of_change(name);
     ended(standing, false)
 }
 

@@ -2,7 +2,7 @@
 // the start of the piece, and waits there for the next read. It knows nothing of reading.
 //
 // Both functions have a `requires`. That a unit has a byte at least the code of each caller says; that no
-// more was read than the piece has, each caller has just checked.
+// more was read than the piece has is what the read before it promises (io_streams).
 ghost use mathlib.Core.Path.{_≡_};
 ghost use Prim.Native.Nat.{_+_, _≤_, _<_};
 ghost use lib.ListN.{length, take, drop};

@@ -19,7 +19,7 @@ abbrev pub knownBytes : Way → ℕ → ℕ
 knownBytes ToRecords held = 0
 knownBytes ToBlocks held = 24 * (held / 24)
 
--- what a run gives lies at the start of the output
+-- what an outcome gives lies at the start of the output
 abbrev pub Lies : Outcome → List ℕ → Type 0
 Lies outcome output = take (length (outcome .given)) output ≡ outcome .given
 

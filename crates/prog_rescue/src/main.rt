@@ -7,6 +7,7 @@
 // two arguments.
 use file_kept::are_too_many;
 use io_names::complain_of;
+use io_names::complain_of_change;
 use io_names::failed_at;
 use io_names::is_free;
 use io_names::make_part;
@@ -39,7 +40,7 @@ fn is_filled(
         return false;
     }
     if !is_same(counted, filled) {
-        complain_of(damaged, b": changed while it was read\n");
+        complain_of_change(damaged);
         return false;
     }
     true

@@ -1,5 +1,6 @@
 // The band rows: where the lines of each filter lie, for each duration and bandwidth. This layer knows no
 // float arithmetic and refuses nothing.
+use law_numbers::most;
 use row_durations::Duration;
 use row_durations::SevenPointFiveMs;
 use row_durations::TenMs;
@@ -104,7 +105,5 @@ pub fn row_of(duration: Duration, bandwidth: u8) -> Row
 pub fn last_stop(row: Row) -> usize
     ensures { λ r. ⌜ r ≡ lastStop row ⌝ }
 {
-    let first = row.first.stop;
-    let second = row.second.stop;
-    if first < second { second } else { first }
+    most(row.first.stop, row.second.stop)
 }
