@@ -5,39 +5,13 @@ use Prim.Native.Nat.{ℕ, _+_, _≤_}
 use lib.ListN.{length, take}
 use Rattle.io.specs.Counts.{Counts}
 use Rattle.law_lists.specs.Portions.{portions}
-use Rattle.check_verdicts.specs.Verdicts.{Verdict, accepted, refused}
-use Rattle.block_check.specs.Blocks.{readVerdict, writeVerdict}
 use Rattle.block_check.specs.Told.{blockFault}
 use Rattle.file_narration.specs.Files.{End, whole, refusedAt, Outcome, outcomeFrom}
-use Rattle.text_put.specs.Text.{Puts}
-use Rattle.io_blocks.specs.declared.Way.{Way}
-use Rattle.io_blocks.specs.declared.Way.the-variants.{ToRecords, ToBlocks}
-use Rattle.io_blocks.specs.declared.Step.{Step}
-use Rattle.io_blocks.specs.declared.Step.the-variants.{Put, Refused}
+use Rattle.io_portion.specs.OnePortion.{sizeOf, verdictOf}
+use Rattle.io_portion.specs.declared.Way.{Way}
 use Rattle.io_blocks.specs.declared.Ended.{Ended}
-use Rattle.io_blocks.specs.declared.Ended.the-variants.{Whole}
-use Rattle.io_blocks.specs.declared.Ended.the-variants as ended
+use Rattle.io_blocks.specs.declared.Ended.the-variants.{Whole, Refused}
 use Rattle.io_blocks.specs.declared.Done.{Done}
-
-abbrev pub sizeOf : Way → ℕ
-sizeOf ToRecords = 512
-sizeOf ToBlocks = 480
-
-abbrev pub verdictOf : Way → ℕ → List ℕ → Verdict (List ℕ)
-verdictOf ToRecords = readVerdict
-verdictOf ToBlocks = writeVerdict
-
--- what an accepted block gives was put after the first bytes
-pub record PutBlock (verdict : Verdict (List ℕ)) (found : List ℕ) (at : ℕ) (left : List ℕ) (count : ℕ) : Type 0 where
-  pub given : List ℕ
-  pub took : verdict ≡ accepted given
-  pub puts : Puts given found at count left
-  pub few : length given ≤ 512
-
--- of a refused one nothing was
-abbrev pub StepDone : Verdict (List ℕ) → List ℕ → ℕ → List ℕ → Step → Type 0
-StepDone verdict found at left (Put count) = PutBlock verdict found at left count
-StepDone verdict found at left (Refused why) = (verdict ≡ refused (blockFault why)) × (left ≡ found)
 
 -- the run over the blocks of some bytes, the first of this number
 abbrev pub blocksOf : Way → ℕ → List ℕ → Outcome
@@ -45,7 +19,7 @@ blocksOf way number bytes = outcomeFrom (verdictOf way) number (portions (sizeOf
 
 abbrev pub endOf : Ended → ℕ → End
 endOf Whole next = whole
-endOf (ended.Refused why) next = refusedAt next (blockFault why)
+endOf (Refused why) next = refusedAt next (blockFault why)
 
 -- what the run gives lies at the start of what is left, it ends as the run does, and where nothing is refused it goes on behind its blocks
 pub record PutsBlocks (way : Way) (number : ℕ) (bytes left : List ℕ) (result : Done) : Type 0 where

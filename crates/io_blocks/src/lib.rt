@@ -1,79 +1,15 @@
 // What the blocks in some bytes become: the records of a narration's blocks, or the blocks of records, up
-// to the first that is refused. It knows nothing of reading and writing.
-use block_check::BlockAnswer;
+// to the first that is refused. It knows nothing of reading and writing. What one portion of the bytes
+// becomes is in io_portion.
 use block_check::BlockRefusal;
-use block_check::check_block;
-use block_write::write_block;
+use io_portion::Step;
+use io_portion::Way;
+use io_portion::put_block;
+use io_portion::size_of;
 use law_numbers::least;
-use text_put::put;
-ghost use mathlib.Core.Path.{_≡_};
-ghost use Prim.Native.Nat.{_≤_, _<_};
+ghost use Prim.Native.Nat.{_≤_};
 ghost use lib.ListN.{length};
-ghost use Rattle.block_check.specs.Blocks.{readVerdict, writeVerdict};
-ghost use Rattle.io_blocks.specs.PutBlocks.{sizeOf, verdictOf, StepDone, PutsBlocks};
-
-// From a narration to its records, or from records to their narration.
-pub enum Way {
-    ToRecords,
-    ToBlocks,
-}
-
-// How many bytes of input a block is: its own, or its records.
-pub fn size_of(way: Way) -> usize
-    ensures { λ r. ⌜ r ≡ sizeOf way ⌝ }
-{
-    match way {
-        Way::ToRecords => 512,
-        Way::ToBlocks => 480,
-    }
-}
-
-// What becomes of one block: how many bytes there are then, or why it is refused.
-pub enum Step {
-    Put(usize),
-    Refused(BlockRefusal),
-}
-
-// The records of a block, after the first `at` bytes of the output.
-fn put_records(number: u64, portion: &[u8], out: &mut [u8], at: usize) -> Step
-    requires { ⌜ at ≤ length (now out) ⌝ }
-    ensures { λ r. ⌜ StepDone (readVerdict number (now (portion .entry))) (now (out .entry)) at (now (out .exit)) r ⌝ }
-{
-    let answer = check_block(number, portion);
-    match answer {
-        BlockAnswer::Refused(why) => Step::Refused(why),
-        BlockAnswer::Records(count) => {
-            if count == 0 {
-                return Step::Put(at);
-            }
-            let stop = 8 + 24 * count;
-            Step::Put(put(&portion[8..stop], out, at))
-        }
-    }
-}
-
-// The block of some records, likewise.
-fn put_written(number: u64, portion: &[u8], out: &mut [u8], at: usize) -> Step
-    requires { ⌜ (at ≤ length (now out)) × (0 < length (now portion)) ⌝ }
-    ensures { λ r. ⌜ StepDone (writeVerdict number (now (portion .entry))) (now (out .entry)) at (now (out .exit)) r ⌝ }
-{
-    let mut block = [0u8; 512];
-    let answer = write_block(number, portion, &mut block);
-    match answer {
-        BlockAnswer::Refused(why) => Step::Refused(why),
-        BlockAnswer::Records(_) => Step::Put(put(&block, out, at)),
-    }
-}
-
-fn put_block(way: Way, number: u64, portion: &[u8], out: &mut [u8], at: usize) -> Step
-    requires { ⌜ (at ≤ length (now out)) × (0 < length (now portion)) ⌝ }
-    ensures { λ r. ⌜ StepDone (verdictOf way number (now (portion .entry))) (now (out .entry)) at (now (out .exit)) r ⌝ }
-{
-    match way {
-        Way::ToRecords => put_records(number, portion, out, at),
-        Way::ToBlocks => put_written(number, portion, out, at),
-    }
-}
+ghost use Rattle.io_blocks.specs.PutBlocks.{PutsBlocks};
 
 // How the blocks of a piece end.
 pub enum Ended {

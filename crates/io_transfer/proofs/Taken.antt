@@ -5,9 +5,9 @@ use native.Mathlib.Omega.{arith}
 use Rattle.io_rest.proofs.Rests.{rest-below}
 use Rattle.io_streams.specs.declared.Read.{Read}
 use Rattle.io_streams.specs.declared.Read.the-variants as read
-use Rattle.io_blocks.specs.PutBlocks.{sizeOf}
-use Rattle.io_blocks.specs.declared.Way.{Way}
-use Rattle.io_blocks.specs.declared.Way.the-variants.{ToRecords, ToBlocks}
+use Rattle.io_portion.specs.OnePortion.{sizeOf}
+use Rattle.io_portion.specs.declared.Way.{Way}
+use Rattle.io_portion.specs.declared.Way.the-variants.{ToRecords, ToBlocks}
 use Rattle.io_transfer.specs.declared.Standing.{Standing}
 use Rattle.io_transfer.specs.Transfer.{knownBytes, AnswersRead}
 

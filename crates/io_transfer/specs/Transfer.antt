@@ -9,9 +9,10 @@ use Rattle.file_narration.specs.Files.{whole, Outcome}
 use Rattle.io_streams.specs.declared.Read.{Read}
 use Rattle.io_streams.specs.declared.Read.the-variants as read
 use Rattle.io_rest.specs.Rest.{wholeBytes, KeepsRest}
-use Rattle.io_blocks.specs.PutBlocks.{sizeOf, blocksOf}
-use Rattle.io_blocks.specs.declared.Way.{Way}
-use Rattle.io_blocks.specs.declared.Way.the-variants.{ToRecords, ToBlocks}
+use Rattle.io_portion.specs.OnePortion.{sizeOf}
+use Rattle.io_portion.specs.declared.Way.{Way}
+use Rattle.io_portion.specs.declared.Way.the-variants.{ToRecords, ToBlocks}
+use Rattle.io_blocks.specs.PutBlocks.{blocksOf}
 use Rattle.io_transfer.specs.declared.Standing.{Standing}
 
 -- how many of the bytes held are known to be whole where input fails: no block of a narration, and the records that were read

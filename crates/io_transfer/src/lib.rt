@@ -7,10 +7,10 @@
 // The inner functions have a `requires`: the sizes of the two pieces, a block's number or the one after the
 // last, less than a block held. So `transfer` begins, and so each turn is proved to leave it. That a read
 // stays within its piece is a promise of io_streams.
-use io_blocks::Way;
 use io_blocks::put_blocks;
-use io_blocks::size_of;
 use io_ends::settled;
+use io_portion::Way;
+use io_portion::size_of;
 use io_rest::keep_rest;
 use io_rest::whole_bytes;
 use io_streams::Read;

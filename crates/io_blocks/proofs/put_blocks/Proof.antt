@@ -13,12 +13,13 @@ use Rattle.law_lists.proofs.Portions.{portions-at, portions-none}
 use Rattle.check_verdicts.specs.Verdicts.{Fault, Verdict, accepted, refused}
 use Rattle.file_narration.specs.Files.{whole, refusedAt, Outcome, nothing, before, goOn, outcomeFrom}
 use Rattle.file_narration.proofs.ReadBack.{outcome-none}
-use Rattle.io_blocks.specs.PutBlocks.{sizeOf, verdictOf, StepDone, blocksOf}
-use Rattle.io_blocks.specs.declared.Way.{Way}
-use Rattle.io_blocks.specs.declared.Way.the-variants.{ToRecords, ToBlocks}
-use Rattle.io_blocks.specs.declared.Step.{Step}
 use Rattle.text_put.proofs.Texts.{all-put, put-few}
-use Rattle.io_blocks.proofs.Steps.{in-range}
+use Rattle.io_portion.specs.OnePortion.{sizeOf, verdictOf, StepDone}
+use Rattle.io_portion.specs.declared.Way.{Way}
+use Rattle.io_portion.specs.declared.Way.the-variants.{ToRecords, ToBlocks}
+use Rattle.io_portion.specs.declared.Step.{Step}
+use Rattle.io_portion.proofs.Steps.{in-range}
+use Rattle.io_blocks.specs.PutBlocks.{blocksOf}
 use Rattle.io_blocks.proofs.put_blocks.Statement.{statement}
 use Rattle.io_blocks.proofs.put_blocks.Tie as tie
 

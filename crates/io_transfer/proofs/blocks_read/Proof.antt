@@ -7,7 +7,8 @@ use lib.ListN.{length, take, length-take}
 use Rattle.io.proofs.Counting.{front}
 use Rattle.law_lists.specs.Portions.{portions}
 use Rattle.text_put.proofs.Texts.{lies-there}
-use Rattle.io_blocks.specs.PutBlocks.{sizeOf, blocksOf, PutsBlocks}
+use Rattle.io_portion.specs.OnePortion.{sizeOf}
+use Rattle.io_blocks.specs.PutBlocks.{blocksOf, PutsBlocks}
 use Rattle.io_rest.specs.Rest.{wholeBytes, KeepsRest}
 use Rattle.io_rest.proofs.Rests.{whole-within}
 use Rattle.io_transfer.specs.Transfer.{Lies}

@@ -2,7 +2,7 @@
 use mathlib.Core.Path.{ap, sym}
 use borrow.Author.Needs.{needs}
 use Rattle.io_transfer.specs.Transfer.{knownBytes}
-use Rattle.io_blocks.specs.declared.Way.{Way}
+use Rattle.io_portion.specs.declared.Way.{Way}
 use Rattle.io_transfer.proofs.known.Statement.{statement}
 use Rattle.io_transfer.proofs.known.Tie as tie
 

@@ -12,8 +12,8 @@ use Rattle.block_check.specs.Blocks.{readVerdict}
 use Rattle.block_check.specs.Told.{blockSays}
 use Rattle.block_check.proofs.Verdicts.{Given, given-some, given-none, refused-too}
 use Rattle.text_put.proofs.Texts.{puts-none}
-use Rattle.io_blocks.proofs.put_records.Statement.{statement}
-use Rattle.io_blocks.proofs.put_records.Tie as tie
+use Rattle.io_portion.proofs.put_records.Statement.{statement}
+use Rattle.io_portion.proofs.put_records.Tie as tie
 
 -- how many records were answered, and what that tells
 counted : (c : tie.After-answer2) →

@@ -7,9 +7,9 @@ use Rattle.block_parts.specs.Parts.{countIn}
 use Rattle.block_check.specs.Blocks.{writeVerdict}
 use Rattle.block_check.specs.Told.{blockSays}
 use Rattle.block_check.proofs.Verdicts.{refused-too}
-use Rattle.io_blocks.proofs.Steps.{WrittenBlock, in-buffer}
-use Rattle.io_blocks.proofs.put_written.Statement.{statement}
-use Rattle.io_blocks.proofs.put_written.Tie as tie
+use Rattle.io_portion.proofs.Steps.{WrittenBlock, in-buffer}
+use Rattle.io_portion.proofs.put_written.Statement.{statement}
+use Rattle.io_portion.proofs.put_written.Tie as tie
 
 written : (c : tie.After-enum-told) →
     let called = c .before .before in

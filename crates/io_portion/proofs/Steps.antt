@@ -13,9 +13,9 @@ use Rattle.block_buffer.specs.Buffers.{laidOver}
 use Rattle.block_parts.proofs.Laid.{block-length}
 use Rattle.block_check.proofs.Verdicts.{accepted-block, some-bytes, accepted-too, block-past, written-block}
 use Rattle.block_buffer.proofs.Buffers.{as-told}
-use Rattle.io_blocks.specs.PutBlocks.{verdictOf}
-use Rattle.io_blocks.specs.declared.Way.{Way}
-use Rattle.io_blocks.specs.declared.Way.the-variants.{ToRecords, ToBlocks}
+use Rattle.io_portion.specs.OnePortion.{verdictOf}
+use Rattle.io_portion.specs.declared.Way.{Way}
+use Rattle.io_portion.specs.declared.Way.the-variants.{ToRecords, ToBlocks}
 
 -- a block that is accepted is not past the last
 pub in-range : (way : Way) (number : ℕ) (portion given : List ℕ) → 0 < length portion → verdictOf way number portion ≡ accepted given → number ≤ 65535
