@@ -1,11 +1,11 @@
 // How the exported functions tell a verdict on a block: two numbers, which C and Rust take by value. Only
 // the crate `tns` calls these functions, each with what a call on a block has just answered.
 use block_check::BlockAnswer;
-use block_rescue::RescueAnswer;
+use block_kept::RescueAnswer;
 ghost use mathlib.Core.Path.{_≡_};
 ghost use Prim.Native.Nat.{_≤_};
 ghost use Rattle.block_check.specs.Told.{blockSays, countSaid};
-ghost use Rattle.block_rescue.specs.Rescue.{rescueSays};
+ghost use Rattle.block_kept.specs.Kept.{rescueSays};
 ghost use Rattle.answer_block.specs.BlockAnswers.{blockFor, rescueFor};
 
 // What a call on a block answers. Refusal 0 says that it is accepted, and any other is request C-11's

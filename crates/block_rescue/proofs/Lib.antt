@@ -1,3 +1,3 @@
 -- The laws that belong to no one function.
-pub mod Kept
+pub mod Rescue
 pub mod Determined

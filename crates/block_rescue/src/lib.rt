@@ -1,40 +1,14 @@
 // What becomes of one block of a damaged narration: it is kept, under the number that it takes among
-// those kept, or it has a fault. Which number stands in it is no fault.
+// those kept, or it has a fault. Which it is, block_kept says.
 use block_bytes::with_sums;
-use block_check::BlockAnswer;
 use block_check::BlockRefusal;
-use block_check::check_block;
-use block_numbers::word_of;
+use block_kept::RescueAnswer;
+use block_kept::check_kept;
 ghost use mathlib.Core.Path.{_≡_};
 ghost use mathlib.Core.List.{_++_};
 ghost use lib.ListN.{length, take, replicate};
-ghost use Rattle.check_verdicts.specs.Verdicts.{onAccepted};
 ghost use Rattle.block_numbers.specs.Words.{wordBytes};
-ghost use Rattle.block_parts.specs.Parts.{numberIn};
-ghost use Rattle.block_rescue.specs.Rescue.{keptVerdict, rescueSays, RescueDone};
-
-// The answer of a call that rescues a block: the number that stands in a block that is kept, or why none
-// is.
-pub enum RescueAnswer {
-    Kept(u16),
-    Refused(BlockRefusal),
-}
-
-// Whether the first 512 of some bytes are a block to keep: the number that stands in it, or its first
-// fault. A block is read as the one that it says it is, so that its number is right whatever it is.
-pub fn check_kept(bytes: &[u8]) -> RescueAnswer
-    ensures { λ r. ⌜ rescueSays r ≡ onAccepted (λ _. numberIn (now (bytes .entry))) (keptVerdict (take 512 (now (bytes .entry)))) ⌝ }
-{
-    if bytes.len() < 512 {
-        return RescueAnswer::Refused(BlockRefusal::Length);
-    }
-    let own = word_of(bytes[0], bytes[1]);
-    let answer = check_block(own as u64, bytes);
-    match answer {
-        BlockAnswer::Refused(why) => RescueAnswer::Refused(why),
-        BlockAnswer::Records(_) => RescueAnswer::Kept(own),
-    }
-}
+ghost use Rattle.block_rescue.specs.Rescue.{RescueDone};
 
 // A block of this number, with zeros after it.
 fn numbered(number: u16) -> [u8; 512]

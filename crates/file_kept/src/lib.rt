@@ -1,7 +1,7 @@
 // How many blocks of a damaged narration are kept, and whether there are numbers for so many, which is asked
 // before any of them is written. It demands nothing, and knows nothing of reading and writing.
-use block_rescue::RescueAnswer;
-use block_rescue::check_kept;
+use block_kept::RescueAnswer;
+use block_kept::check_kept;
 use law_numbers::least;
 ghost use mathlib.Core.Path.{_≡_};
 ghost use lib.Dec.{ltb};

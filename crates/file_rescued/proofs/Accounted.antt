@@ -17,8 +17,8 @@ use Rattle.check_verdicts.specs.Verdicts.{Fault, Verdict, numbered, accepted, r
 use Rattle.block_parts.specs.Parts.{numberIn, recordsIn}
 use Rattle.file_narration.proofs.Cuts.{no-members}
 use Rattle.file_narration.proofs.InPieces.{portions-split}
-use Rattle.block_rescue.specs.Rescue.{keptVerdict}
-use Rattle.block_rescue.proofs.Kept.{too-short}
+use Rattle.block_kept.specs.Kept.{keptVerdict}
+use Rattle.block_kept.proofs.Kept.{too-short}
 use Rattle.file_rescued.specs.Rescues.{Entry, dropped, moved, stray, keptOf, entriesBy, entriesOf, numberAfter, reportFrom, rescued}
 use Rattle.file_rescued.proofs.Portioned.{portion-at}
 use Rattle.file_rescued.proofs.Reports.{report-left, number-after, report-split}

@@ -13,8 +13,8 @@ use Rattle.block_parts.proofs.Laid.{block-length}
 use Rattle.file_narration.specs.Files.{blocksFrom}
 use Rattle.file_narration.proofs.BlockBack.{block-back}
 use Rattle.file_narration.proofs.ReadBack.{Holdable}
-use Rattle.block_rescue.specs.Rescue.{keptVerdict}
-use Rattle.block_rescue.proofs.Kept.{any-number}
+use Rattle.block_kept.specs.Kept.{keptVerdict}
+use Rattle.block_kept.proofs.Kept.{any-number}
 use Rattle.file_rescued.specs.Rescues.{keptOf, numberedFrom, reportFrom, rescueOf}
 use Rattle.file_rescued.proofs.KeptBlocks.{kept-first, renumbered-written}
 use Rattle.file_rescued.proofs.MendedRead.{rescued-if}

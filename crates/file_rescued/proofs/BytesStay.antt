@@ -15,8 +15,9 @@ use Rattle.block_numbers.specs.Words.{wordBytes}
 use Rattle.block_parts.specs.Parts.{countIn, sumBytes}
 use Rattle.block_parts.proofs.Counted.{few-records}
 use Rattle.file_narration.proofs.OnlyBlock.{AreBytes}
-use Rattle.block_rescue.specs.Rescue.{keptVerdict, renumbered}
-use Rattle.block_rescue.proofs.Kept.{renumbered-length}
+use Rattle.block_kept.specs.Kept.{keptVerdict}
+use Rattle.block_rescue.specs.Rescue.{renumbered}
+use Rattle.block_rescue.proofs.Rescue.{renumbered-length}
 use Rattle.file_rescued.specs.Rescues.{keptOf, numberedFrom, Rescued, rescueOf}
 use Rattle.file_rescued.proofs.Portioned.{file-portions, portion-at}
 use Rattle.file_rescued.proofs.KeptBlocks.{KeptBlock, AllKept, kept-first, left-first, kept-all}

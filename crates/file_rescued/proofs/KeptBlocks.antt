@@ -16,8 +16,9 @@ use Rattle.block_parts.proofs.Counted.{few-records, some-records, records-lengt
 use Rattle.file_narration.specs.Files.{blocksFrom}
 use Rattle.file_narration.proofs.OnlyBlock.{AreBytes, only-block}
 use Rattle.file_narration.proofs.ReadBack.{Holdable, AllHoldable}
-use Rattle.block_rescue.specs.Rescue.{keptVerdict, renumbered}
-use Rattle.block_rescue.proofs.Kept.{kept-block}
+use Rattle.block_kept.specs.Kept.{keptVerdict}
+use Rattle.block_kept.proofs.Kept.{kept-block}
+use Rattle.block_rescue.specs.Rescue.{renumbered}
 use Rattle.file_rescued.specs.Rescues.{keptOf, numberedFrom}
 use Rattle.file_rescued.proofs.Portioned.{Portion, AllPortions}
 

@@ -5,7 +5,8 @@ use Prim.Native.Nat.{ℕ, suc, _+_, _≤_}
 use native.Mathlib.Omega.{arith}
 use lib.ListN.{length}
 use Rattle.check_verdicts.specs.Verdicts.{Fault, Verdict, accepted, refused, unlessRefused}
-use Rattle.block_rescue.specs.Rescue.{keptVerdict, renumbered}
+use Rattle.block_kept.specs.Kept.{keptVerdict}
+use Rattle.block_rescue.specs.Rescue.{renumbered}
 use Rattle.file_rescued.specs.Rescues.{Entry, keptOf, numberedFrom, entriesBy, entriesOf, numberAfter, reportFrom}
 
 module _ (place number : ℕ) (portion : List ℕ) (rest : List (List ℕ)) where

@@ -8,8 +8,9 @@ use lib.ListN.{length, length-append}
 use Rattle.law_lists.specs.Portions.{portions}
 use Rattle.check_verdicts.specs.Verdicts.{Verdict, accepted, refused}
 use Rattle.file_narration.proofs.InPieces.{portions-split}
-use Rattle.block_rescue.specs.Rescue.{keptVerdict, renumbered, rescueVerdict}
-use Rattle.block_rescue.proofs.Kept.{rescue-fault, takes-number}
+use Rattle.block_kept.specs.Kept.{keptVerdict}
+use Rattle.block_rescue.specs.Rescue.{renumbered, rescueVerdict}
+use Rattle.block_rescue.proofs.Rescue.{rescue-fault, takes-number}
 use Rattle.file_rescued.specs.Rescues.{Entry, keptOf, numberedFrom, reportFrom, Stepped, nextBy, stepThen, steppedFrom}
 use Rattle.file_rescued.proofs.KeptBlocks.{kept-first, left-first}
 use Rattle.file_rescued.proofs.Reports.{report-kept, report-left, kept-split, numbered-split, report-split}

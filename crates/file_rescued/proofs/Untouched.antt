@@ -19,8 +19,8 @@ use Rattle.block_check.proofs.Verdicts.{AcceptedBlock, all-right}
 use Rattle.file_narration.specs.Files.{whole, Outcome, outcomeFrom, reading}
 use Rattle.file_narration.proofs.Cuts.{no-members}
 use Rattle.file_narration.proofs.OnlyBlock.{AreBytes, first-whole, first-accepted, first-bytes, rest-bytes, only-file}
+use Rattle.block_kept.proofs.Kept.{any-number}
 use Rattle.block_rescue.specs.Rescue.{renumbered}
-use Rattle.block_rescue.proofs.Kept.{any-number}
 use Rattle.file_rescued.specs.Rescues.{Entry, keptOf, numberedFrom, entriesBy, reportFrom, Rescued, rescueOf}
 use Rattle.file_rescued.proofs.Portioned.{file-portions}
 use Rattle.file_rescued.proofs.KeptBlocks.{AllKept, kept-first, kept-all, numbered-blocks}

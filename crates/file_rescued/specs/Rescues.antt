@@ -8,7 +8,8 @@ use lib.ListN.{length}
 use Rattle.law_lists.specs.Portions.{portions}
 use Rattle.check_verdicts.specs.Verdicts.{Fault, Verdict, accepted, refused, check, unlessRefused}
 use Rattle.block_parts.specs.Parts.{numberIn}
-use Rattle.block_rescue.specs.Rescue.{keptVerdict, renumbered, rescueVerdict}
+use Rattle.block_kept.specs.Kept.{keptVerdict}
+use Rattle.block_rescue.specs.Rescue.{renumbered, rescueVerdict}
 
 -- ---- the blocks
 

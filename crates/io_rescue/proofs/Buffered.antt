@@ -10,10 +10,12 @@ use Rattle.block_parts.specs.Parts.{numberIn}
 use Rattle.block_check.specs.Told.{blockFault}
 use Rattle.block_check.specs.declared.check.BlockRefusal.{BlockRefusal}
 use Rattle.block_check.proofs.Verdicts.{refused-too, accepted-too}
-use Rattle.block_rescue.specs.Rescue.{rescueVerdict, rescueSays, RescueDone}
-use Rattle.block_rescue.specs.declared.RescueAnswer.{RescueAnswer}
-use Rattle.block_rescue.specs.declared.RescueAnswer.the-variants.{Kept, Refused}
-use Rattle.block_rescue.proofs.Kept.{kept-long, renumbered-length, rescuable}
+use Rattle.block_kept.specs.Kept.{rescueSays}
+use Rattle.block_kept.specs.declared.RescueAnswer.{RescueAnswer}
+use Rattle.block_kept.specs.declared.RescueAnswer.the-variants.{Kept, Refused}
+use Rattle.block_kept.proofs.Kept.{kept-long}
+use Rattle.block_rescue.specs.Rescue.{rescueVerdict, RescueDone}
+use Rattle.block_rescue.proofs.Rescue.{renumbered-length, rescuable}
 
 -- the block as it becomes, of a portion that is kept
 pub record KeptThere (number : ℕ) (portion left : List ℕ) (own : ℕ) : Type 0 where

@@ -7,8 +7,9 @@ use lib.ListN.{length, take, drop, drop-of-length-le}
 use Rattle.law_lists.specs.Portions.{portions}
 use Rattle.law_lists.proofs.Portions.{portions-at, portions-none}
 use Rattle.check_verdicts.specs.Verdicts.{Verdict, accepted, refused, unlessRefused}
+use Rattle.block_kept.proofs.Kept.{kept-long}
 use Rattle.block_rescue.specs.Rescue.{rescueVerdict}
-use Rattle.block_rescue.proofs.Kept.{kept-long, renumbered-length, rescuable}
+use Rattle.block_rescue.proofs.Rescue.{renumbered-length, rescuable}
 use Rattle.file_rescued.specs.Rescues.{Entry, entriesBy, Stepped, nextBy, stepThen, steppedFrom}
 use Rattle.file_rescued.proofs.Steps.{step-first}
 use Rattle.text_report.specs.ReportText.{reportText}

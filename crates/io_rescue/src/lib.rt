@@ -3,7 +3,7 @@
 //
 // The inner functions have a `requires`: that there is room, which `rescue_piece` has checked, and that a
 // portion is no longer than a block, as the loop over the portions cuts them.
-use block_rescue::RescueAnswer;
+use block_kept::RescueAnswer;
 use block_rescue::rescue_block;
 use law_numbers::least;
 use text_put::put;

@@ -2,8 +2,8 @@
 use mathlib.Core.Path.{sym, _∙_, ap}
 use Prim.Native.Nat.{ℕ}
 use borrow.Author.Needs.{needs}
-use Rattle.block_rescue.specs.Rescue.{rescueSays}
-use Rattle.block_rescue.specs.declared.RescueAnswer.{RescueAnswer}
+use Rattle.block_kept.specs.Kept.{rescueSays}
+use Rattle.block_kept.specs.declared.RescueAnswer.{RescueAnswer}
 use Rattle.answer_block.specs.BlockAnswers.{rescueFor}
 use Rattle.answer_block.specs.declared.RescueTold.{RescueTold}
 use Rattle.answer_block.proofs.rescue_told.Statement.{statement}

@@ -12,9 +12,11 @@ use Rattle.check_verdicts.specs.Verdicts.{Verdict, accepted, unlessRefused, onA
 use Rattle.block_numbers.specs.Words.{wordBytes}
 use Rattle.block_parts.specs.Parts.{numberIn, sumBytes}
 use Rattle.block_check.proofs.Verdicts.{MadeFrom, refused-too, accepted-too}
-use Rattle.block_rescue.specs.Rescue.{keptVerdict, renumbered, rescueVerdict, rescueSays, RescueDone}
-use Rattle.block_rescue.specs.declared.RescueAnswer.{RescueAnswer}
-use Rattle.block_rescue.proofs.Kept.{own-first, kept-long, rescue-fault, takes-number, no-number}
+use Rattle.block_kept.specs.Kept.{keptVerdict, rescueSays}
+use Rattle.block_kept.specs.declared.RescueAnswer.{RescueAnswer}
+use Rattle.block_kept.proofs.Kept.{own-first, kept-long}
+use Rattle.block_rescue.specs.Rescue.{renumbered, rescueVerdict, RescueDone}
+use Rattle.block_rescue.proofs.Rescue.{rescue-fault, takes-number, no-number}
 use Rattle.block_rescue.proofs.rescue_block.Statement.{statement}
 use Rattle.block_rescue.proofs.rescue_block.Tie as tie
 

@@ -11,7 +11,7 @@ use Rattle.law_lists.proofs.Portions.{portions-at, portions-none}
 use Rattle.check_verdicts.specs.Verdicts.{Fault, accepted, refused, onAccepted}
 use Rattle.block_parts.specs.Parts.{numberIn}
 use Rattle.block_check.proofs.Verdicts.{refused-too, accepted-too}
-use Rattle.block_rescue.specs.Rescue.{keptVerdict, rescueSays}
+use Rattle.block_kept.specs.Kept.{keptVerdict, rescueSays}
 use Rattle.file_rescued.specs.Rescues.{keptOf}
 use Rattle.file_rescued.proofs.KeptBlocks.{kept-first, left-first}
 use Rattle.file_rescued.proofs.Accounted.{none-kept}

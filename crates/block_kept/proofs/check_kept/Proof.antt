@@ -10,10 +10,10 @@ use Rattle.block_parts.specs.Parts.{countOf, numberIn, recordsIn}
 use Rattle.block_check.specs.Blocks.{readVerdict}
 use Rattle.block_check.specs.Told.{blockSays}
 use Rattle.block_check.proofs.Verdicts.{refused-too, accepted-too}
-use Rattle.block_rescue.specs.Rescue.{keptVerdict}
-use Rattle.block_rescue.proofs.Kept.{own-read, too-short}
-use Rattle.block_rescue.proofs.check_kept.Statement.{statement}
-use Rattle.block_rescue.proofs.check_kept.Tie as tie
+use Rattle.block_kept.specs.Kept.{keptVerdict}
+use Rattle.block_kept.proofs.Kept.{own-read, too-short}
+use Rattle.block_kept.proofs.check_kept.Statement.{statement}
+use Rattle.block_kept.proofs.check_kept.Tie as tie
 
 abbrev told : List ℕ → Verdict (List ℕ) → Verdict ℕ
 told bytes = onAccepted (λ _. numberIn bytes)
