@@ -1,4 +1,4 @@
--- What the blocks in some bytes become: the run of `file_narration` over them, read or written.
+-- What the blocks in some bytes become: the outcome of `file_narration` over them, read or written.
 use mathlib.Core.Path.{_≡_}
 use mathlib.Core.List.{List}
 use Prim.Native.Nat.{ℕ, _+_, _≤_}
@@ -13,7 +13,7 @@ use Rattle.io_blocks.specs.declared.Ended.{Ended}
 use Rattle.io_blocks.specs.declared.Ended.the-variants.{Whole, Refused}
 use Rattle.io_blocks.specs.declared.Done.{Done}
 
--- the run over the blocks of some bytes, the first of this number
+-- the outcome over the blocks of some bytes, the first of this number
 abbrev pub blocksOf : Way → ℕ → List ℕ → Outcome
 blocksOf way number bytes = outcomeFrom (verdictOf way) number (portions (sizeOf way) bytes)
 
@@ -21,7 +21,7 @@ abbrev pub endOf : Ended → ℕ → End
 endOf Whole next = whole
 endOf (Refused why) next = refusedAt next (blockFault why)
 
--- what the run gives lies at the start of what is left, it ends as the run does, and where nothing is refused it goes on behind its blocks
+-- what the outcome gives lies at the start of what is left, it ends as the outcome does, and where nothing is refused it goes on behind its blocks
 pub record PutsBlocks (way : Way) (number : ℕ) (bytes left : List ℕ) (result : Done) : Type 0 where
   pub counts : Counts (result .count) left
   pub given : take (result .count) left ≡ blocksOf way number bytes .given
