@@ -4,7 +4,7 @@
 #
 # $root is the repository, $tns the launcher and $programs the folder of the programs; the variable
 # TNS_PROGRAMS can name that of others. The file `nothing` is empty. Assumes GNU's tools on Linux and, for
-# `builds`, a C compiler (CC names another than cc).
+# `builds`, a C compiler for this machine (HOSTCC, or else CC, names another than cc).
 set -eu
 LC_ALL=C
 export LC_ALL
@@ -34,7 +34,7 @@ needs() { # PROGRAM..: they must have been built
 }
 
 builds() { # NAME..: of tests/NAME.c
-    for name; do ${CC:-cc} -std=c99 -O2 -Wall -Wextra -Werror -o "$name" "$root/tests/$name.c"; done
+    for name; do ${HOSTCC:-${CC:-cc}} -std=c99 -O2 -Wall -Wextra -Werror -o "$name" "$root/tests/$name.c"; done
 }
 
 # Runs a command with its output and its errors in the files `out` and `err`, and its status in $status.

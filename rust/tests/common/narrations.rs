@@ -1,6 +1,7 @@
 //! The gate's model of narration files, asked what it makes of records, blocks and files: the C program
 //! `tests/narration.c`, which shares nothing with the library. The layout, the sums and the costs stand there,
-//! not here. Each test file has it built once, with cc or what CC names, and one process answers all questions.
+//! not here. Each test file has it built once, with cc or what HOSTCC or else CC names, and one process answers
+//! all questions.
 
 use std::io::{BufReader, Read, Write};
 use std::process::{Child, ChildStdin, ChildStdout, Command, Stdio};
@@ -20,7 +21,8 @@ struct Model(ChildStdin, BufReader<ChildStdout>);
 
 impl Model {
     fn start() -> Self {
-        let compiler = std::env::var_os("CC").filter(|name| !name.is_empty());
+        let named = |variable| std::env::var_os(variable).filter(|name| !name.is_empty());
+        let compiler = named("HOSTCC").or_else(|| named("CC"));
         let folder = env!("CARGO_TARGET_TMPDIR");
         let program = format!("{folder}/narration-{}", env!("CARGO_CRATE_NAME"));
         let built = Command::new(compiler.unwrap_or("cc".into()))
