@@ -2,15 +2,8 @@
 use mathlib.Core.Path.{_≡_}
 use mathlib.Core.List.{List}
 use Prim.Native.Nat.{ℕ, _+_, _/_}
-use lib.ListN.{length}
-use Rattle.law_lists.specs.Portions.{portions}
-use Rattle.file_rescued.specs.Rescues.{keptOf}
 use Rattle.io_rest.specs.Rest.{KeepsRest}
 use Rattle.io_reading.specs.declared.Standing.{Standing}
-
--- how many blocks of some bytes are kept
-abbrev pub keptIn : List ℕ → ℕ
-keptIn bytes = length (keptOf (portions 512 bytes))
 
 -- a piece is passed: the place goes on by its whole blocks, and what is left of the bytes is held
 pub record Passes (standing : Standing) (read : ℕ) (found left : List ℕ) (result : Standing) : Type 0 where

@@ -4,7 +4,8 @@ use mathlib.Core.List.{List}
 use Prim.Native.Nat.{ℕ, _+_}
 use lib.ListN.{take}
 use Rattle.io_rest.specs.Rest.{wholeBytes}
-use Rattle.io_reading.specs.Passes.{keptIn, Passes}
+use Rattle.file_kept.specs.KeptIn.{keptIn}
+use Rattle.io_reading.specs.Passes.{Passes}
 use Rattle.io_reading.specs.declared.Standing.{Standing}
 
 -- those of its blocks that are kept are counted

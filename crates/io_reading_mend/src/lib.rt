@@ -1,10 +1,11 @@
 // The second reading of a damaged file, in pieces of a fixed size: it writes what the blocks become, and
 // says the report.
 //
-// The inner functions have a `requires`: the sizes of the three pieces, a place and a number that leave room
-// for those of one more, less than a block held, and for `is_put` no more put than its pieces have. So
-// `mend_pass` begins, and so each turn is proved to leave it, for as many turns as it makes. That a read stays
-// within its piece is a promise of io_streams, and what was put is counted by io_rescue's.
+// The inner functions have a `requires`: the sizes of the three pieces, a place that leaves room for those of
+// one more, a number that there is or the one after the last, less than a block held, and for `is_put` no more
+// put than its pieces have. So `mend_pass` begins, and so each turn is proved to leave it, for as many turns as
+// it makes. That a read stays within its piece is a promise of io_streams, and what was put is counted by
+// io_rescue's.
 use file_kept::count_kept;
 use io_names::complain_of_change;
 use io_progress::Progress;
@@ -27,7 +28,7 @@ ghost use Prim.Native.Nat.{_+_, _≤_, _<_};
 ghost use lib.ListN.{length, take};
 ghost use Rattle.io.specs.Counts.{Counts};
 ghost use Rattle.io_rest.specs.Rest.{wholeBytes};
-ghost use Rattle.io_reading.specs.Passes.{keptIn};
+ghost use Rattle.file_kept.specs.KeptIn.{keptIn};
 ghost use Rattle.io_reading_mend.specs.SecondReading.{MendsPiece, TellsRest};
 
 // Writes what was put of a piece: the blocks to the file that is made, and then what is said of them, to a

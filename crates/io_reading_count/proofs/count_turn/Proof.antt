@@ -7,7 +7,7 @@ use lib.ListN.{length, take, length-take}
 use Rattle.io_streams.specs.Reads.{Within}
 use Rattle.io_streams.specs.declared.Read.{Read}
 use Rattle.io_streams.specs.declared.Read.the-variants.{Bytes}
-use Rattle.io_reading.proofs.PieceBounds.{kept-120}
+use Rattle.file_kept.proofs.PieceBounds.{kept-120}
 use Rattle.io_reading_count.proofs.count_turn.Statement.{statement}
 use Rattle.io_reading_count.proofs.count_turn.Tie as tie
 

@@ -5,7 +5,7 @@ use native.Mathlib.Omega.{arith}
 use borrow.Author.Needs.{needs}
 use lib.ListN.{take, length-take}
 use Rattle.io.proofs.Counting.{front}
-use Rattle.io_reading.proofs.PieceBounds.{kept-120}
+use Rattle.file_kept.proofs.PieceBounds.{kept-120}
 use Rattle.io_reading_count.proofs.counted.Statement.{statement}
 use Rattle.io_reading_count.proofs.counted.Tie as tie
 

@@ -8,7 +8,7 @@ use borrow.Author.Tests.{leb-true}
 use lib.Dec.{leb}
 use lib.ListN.{take, length-take}
 use Rattle.io.proofs.Counting.{front}
-use Rattle.io_reading.proofs.PieceBounds.{kept-120}
+use Rattle.file_kept.proofs.PieceBounds.{kept-120}
 use Rattle.io_reading_mend.proofs.has_numbers.Statement.{statement}
 use Rattle.io_reading_mend.proofs.has_numbers.Tie as tie
 

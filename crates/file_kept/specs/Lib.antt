@@ -1,0 +1,2 @@
+-- What a reader has to believe of how many blocks are kept.
+pub mod KeptIn
