@@ -4,9 +4,9 @@
 //
 // Of each list it writes a line for each record that differs, with the first number that does, and
 // last how many records there are and how many differ. A list that ends inside a record differs there.
-use io_expected::labelled;
-use io_expected::say;
-use io_replay::record;
+use replay_list::labelled;
+use replay_list::say;
+use replay_record::record;
 ghost use Prim.Native.Nat.{_+_, _<_, _≤_};
 
 // One difference more, if the record differs. Its number ends the line.

@@ -1,8 +1,8 @@
--- `io_expected::side_compared` reads within the side data and ends.
+-- `replay_list::side_compared` reads within the side data and ends.
 use Prim.Native.Nat.{_-_, _≤_}
 use borrow.Author.Needs.{needs}
-use Rattle.io_expected.proofs.side_compared.Statement.{statement}
-use Rattle.io_expected.proofs.side_compared.Tie as tie
+use Rattle.replay_list.proofs.side_compared.Statement.{statement}
+use Rattle.replay_list.proofs.side_compared.Tie as tie
 
 abbrev Inv-loop : tie.InvT-loop
 Inv-loop list found earlier different₀ i₀ different i = i ≤ 20

@@ -1,11 +1,11 @@
--- `io_expected::read_lines` writes within its lines and ends.
+-- `replay_list::read_lines` writes within its lines and ends.
 use mathlib.Core.Path.{_≡_}
 use Prim.Native.Nat.{_-_, _≤_}
 use native.Mathlib.Omega.{arith}
 use borrow.Author.Needs.{needs}
 use lib.ListN.{length, length-set}
-use Rattle.io_expected.proofs.read_lines.Statement.{statement}
-use Rattle.io_expected.proofs.read_lines.Tie as tie
+use Rattle.replay_list.proofs.read_lines.Statement.{statement}
+use Rattle.replay_list.proofs.read_lines.Tie as tie
 
 abbrev Inv-loop : tie.InvT-loop
 Inv-loop list lines₀ i₀ i-end lines i = (i ≤ i-end) × (i-end ≡ length lines₀) × (length lines ≡ length lines₀)

@@ -1,10 +1,10 @@
--- `io_expected::lines_compared` reads within its lines and ends.
+-- `replay_list::lines_compared` reads within its lines and ends.
 use mathlib.Core.Path.{_≡_}
 use Prim.Native.Nat.{_-_, _≤_}
 use borrow.Author.Needs.{needs}
 use lib.ListN.{length}
-use Rattle.io_expected.proofs.lines_compared.Statement.{statement}
-use Rattle.io_expected.proofs.lines_compared.Tie as tie
+use Rattle.replay_list.proofs.lines_compared.Statement.{statement}
+use Rattle.replay_list.proofs.lines_compared.Tie as tie
 
 abbrev Inv-loop : tie.InvT-loop
 Inv-loop list found earlier different₀ i₀ i-end different i = (i ≤ i-end) × (i-end ≡ length found)

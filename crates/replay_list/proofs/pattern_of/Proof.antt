@@ -5,8 +5,8 @@ use borrow.Author.Needs.{needs}
 use lib.Dec.{T}
 use lib.Ieee.{Float, nan, inf, fin, isNan, ne, toBits, binary32}
 use lib.Ieee.Compare.{differs-from-itself, nan-differs}
-use Rattle.io_expected.proofs.pattern_of.Statement.{statement}
-use Rattle.io_expected.proofs.pattern_of.Tie as tie
+use Rattle.replay_list.proofs.pattern_of.Statement.{statement}
+use Rattle.replay_list.proofs.pattern_of.Tie as tie
 
 its-pattern : (x : Float) → ne x x ≡ true → 0x7fc00000 ≡ toBits binary32 x
 unfolding toBits

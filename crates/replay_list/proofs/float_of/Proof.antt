@@ -7,8 +7,8 @@ use borrow.Author.Tests.{lt-ltb, le-ltb}
 use lib.Dec.{T}
 use lib.Ieee.{Float, nan, inf, fin, isNan, nanBits, ofBits, binary32, div}
 use lib.Ieee.Bits.{nanBits-is, nanBits-above}
-use Rattle.io_expected.proofs.float_of.Statement.{statement}
-use Rattle.io_expected.proofs.float_of.Tie as tie
+use Rattle.replay_list.proofs.float_of.Statement.{statement}
+use Rattle.replay_list.proofs.float_of.Tie as tie
 
 is-nan : (x : Float) → isNan x ≡ true → x ≡ nan
 unfolding isNan
