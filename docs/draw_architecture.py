@@ -18,10 +18,11 @@ PICTURE = DOCS / "architecture.svg"
 # The rooms from the top down, and where each stands from left to right.
 ROWS = [
     [("prog", 250), ("examples", 760)],
-    [("io", 60), ("tns", 560)],
-    [("text", 60), ("answer", 560)],
-    [("file", 60), ("call", 560)],
-    [("block", 60), ("shape", 620)],
+    [("io", 60), ("replay", 560)],
+    [("text", 60), ("tns", 560)],
+    [("file", 60), ("answer", 560)],
+    [("block", 60), ("call", 560)],
+    [("shape", 620)],
     [("side", 480)],
     [("cost", 40), ("index", 400), ("lattice", 740)],
     [("check", 200)],
