@@ -1,18 +1,14 @@
--- Laws of a block's layout as it is written: its lengths, and that zeros are left out of zeros.
+-- Laws of a block's layout as it is written: its lengths, and what its bytes are laid over.
 use mathlib.Core.Path.{_≡_, refl, sym, _∙_, ap}
 use mathlib.Core.List.{List, _++_, append-assoc}
-use Prim.Native.Nat.{ℕ, zero, suc, _+_, _-_, _≤_}
+use Prim.Native.Nat.{ℕ, _+_, _-_, _≤_}
 use native.Mathlib.Omega.{arith}
 use lib.ListN.{length, take, drop, replicate, length-append, length-replicate, replicate-append-replicate}
 use lib.Seq.{take-all, drop-drop, take-at}
 use lib.Seq.{paste}
+use Rattle.law_lists.proofs.Parts.{drop-zeros}
 use Rattle.block_numbers.specs.Words.{wordBytes}
 use Rattle.block_parts.specs.Parts.{countOf, countIn, headerBytes, fillBytes, bodyBytes, blockBytes}
-
-drop-zeros : (n m : ℕ) → drop {A = ℕ} n (replicate m 0) ≡ replicate (m - n) 0
-drop-zeros zero m = let e : m - 0 ≡ m = omega arith in rw e
-drop-zeros (suc n) zero = let e : 0 - suc n ≡ 0 = omega arith in rw e
-drop-zeros (suc n) (suc m) = let e : suc m - suc n ≡ m - n = omega arith in rw e (drop-zeros n m)
 
 module _ (number : ℕ) (records : List ℕ) (few : length records ≤ 480) where
   pub body-length : length (bodyBytes number records) ≡ 508

@@ -1,13 +1,19 @@
 -- Laws of the part of a list from a start to a stop: it is the same where both are cut at the list's end, it is what is left of the members before
--- the stop, and it is its two parts at any place between.
+-- the stop, and it is its two parts at any place between. And what is left of zeros.
 use mathlib.Core.Path.{_≡_, sym, _∙_, ap}
 use mathlib.Core.List.{List, [], _∷_, _++_}
 use Prim.Native.Nat.{ℕ, zero, suc, _+_, _-_, _≤_, _<_, min}
 use native.Mathlib.Decide.{decLt}
 use native.Mathlib.Omega.{arith}
-use lib.ListN.{length, take, drop, length-drop, drop-of-length-le}
+use lib.ListN.{length, take, drop, replicate, length-drop, drop-of-length-le}
 use lib.Seq.{take-all, take-nil, take-take, take-add, drop-drop}
 use Rattle.law_lists.specs.Places.{part}
+
+-- what is left of zeros are zeros
+pub drop-zeros : (n m : ℕ) → drop {A = ℕ} n (replicate m 0) ≡ replicate (m - n) 0
+drop-zeros zero m = let e : m - 0 ≡ m = omega arith in rw e
+drop-zeros (suc n) zero = let e : 0 - suc n ≡ 0 = omega arith in rw e
+drop-zeros (suc n) (suc m) = let e : suc m - suc n ≡ m - n = omega arith in rw e (drop-zeros n m)
 
 -- beyond a list's length no more of it is taken
 take-more : {A : Type 0} (m n : ℕ) (xs : List A) → length xs ≤ m → length xs ≤ n → take m xs ≡ take n xs
