@@ -1,0 +1,2 @@
+-- What a reader has to believe of the paths of files.
+pub mod Paths
