@@ -4,7 +4,8 @@
 use libc::STDERR_FILENO;
 use text_put::put;
 use text_put::put_numbered;
-ghost use Rattle.io.specs.Counts.{Counts};
+ghost use Rattle.text_put.specs.Text.{Puts};
+ghost use Rattle.io_progress.specs.Named.{nameText};
 
 // What is known of a run: whether its progress is shown, how large its file is, the second in which it
 // began and the last that was seen, and whether something stands on the terminal.
@@ -83,7 +84,7 @@ pub fn erase(progress: Progress) {
 
 // Puts how a file is named where something is said of it, in the place of what stands on the terminal.
 pub fn put_name(progress: Progress, name: &[u8], text: &mut [u8]) -> usize
-    ensures { λ r. ⌜ Counts r (now (text .exit)) ⌝ }
+    ensures { λ r. ⌜ Puts (nameText (progress .«is_shown») (now (name .entry))) (now (text .entry)) 0 r (now (text .exit)) ⌝ }
 {
     if progress.is_shown {
         let erased = put(b"\r           \r", text, 0);
