@@ -7,7 +7,8 @@
 use libc::STDERR_FILENO;
 use libc::STDIN_FILENO;
 use libc::STDOUT_FILENO;
-ghost use Rattle.io_streams.specs.Reads.{ReadAfter};
+ghost use mathlib.Core.Path.{_≡_};
+ghost use Rattle.io_streams.specs.Reads.{readOf, mostTurns, ReadAfter};
 
 // The descriptor that the launcher opens for a program to say that something was refused, or failed.
 const LAUNCHER: i32 = 3;
@@ -31,6 +32,19 @@ pub fn complain(line: &[u8]) {
     io::write_all(LAUNCHER, b"2");
 }
 
+// What a read gives, by whether the system's failed and how many bytes that gave.
+fn read_of(is_failed: bool, count: usize) -> Read
+    ensures { λ r. ⌜ r ≡ readOf «is_failed» count ⌝ }
+{
+    if is_failed {
+        return Read::Failed;
+    }
+    if count == 0 {
+        return Read::End;
+    }
+    Read::Bytes(count)
+}
+
 // One read of a descriptor, into `piece` after its first `held` bytes, which it leaves alone. A failure
 // is said at once, of what `what` names.
 pub fn read_from(descriptor: i32, what: &[u8], piece: &mut [u8], held: usize) -> Read
@@ -40,15 +54,12 @@ pub fn read_from(descriptor: i32, what: &[u8], piece: &mut [u8], held: usize) ->
         return Read::End;
     }
     let got = libc::read(descriptor, &mut piece[held..]);
-    if got < 0 {
+    let is_failed = got < 0;
+    if is_failed {
         failed(what);
-        return Read::Failed;
     }
     let count = io::count(got, &piece[held..]);
-    if count == 0 {
-        return Read::End;
-    }
-    Read::Bytes(count)
+    read_of(is_failed, count)
 }
 
 // The same of standard input.
@@ -56,6 +67,21 @@ pub fn read_after(piece: &mut [u8], held: usize) -> Read
     ensures { λ r. ⌜ ReadAfter held (now (piece .entry)) (now (piece .exit)) r ⌝ }
 {
     read_from(STDIN_FILENO, b"tns: standard input", piece, held)
+}
+
+// How many turns a program's loop makes at most, each with a read, so that it ends.
+pub fn most_turns() -> u64
+    ensures { λ r. ⌜ r ≡ mostTurns ⌝ }
+{
+    0x20_0000_0000_0000
+}
+
+// After a program's last turn: standard input that still goes on has not been taken to its end, and that is
+// a failure. No run makes so many turns, but none may end silently with its output cut.
+pub fn complain_if_unfinished(goes_on: bool) {
+    if goes_on {
+        complain(b"tns: standard input: too many reads\n");
+    }
 }
 
 // Writes all of a text to a descriptor, and answers whether it could. A failure is said at once, of what

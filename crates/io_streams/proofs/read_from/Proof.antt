@@ -1,12 +1,13 @@
 -- A read stays within the part that it is lent.
 use mathlib.Core.Path.{_≡_}
 use mathlib.Core.List.{List}
-use Prim.Native.Nat.{ℕ, _-_, _≤_}
+use Prim.Native.Nat.{ℕ, _+_, _-_, _≤_}
 use native.Mathlib.Omega.{arith}
 use borrow.Author.Needs.{needs}
 use lib.ListN.{length, take}
 use lib.Seq.{take-at, length-take-le}
 use borrow.Rule.Slice.PartMut.{putMid}
+use Rattle.io_streams.proofs.ReadsGiven.{given-within}
 use Rattle.io_streams.proofs.read_from.Statement.{statement}
 use Rattle.io_streams.proofs.read_from.Tie as tie
 
@@ -16,18 +17,14 @@ held-kept held count bytes part h = take-at (take held bytes) _ held (length-tak
 
 returns-2 : tie.Need-returns-2
 returns-2 c =
-    let g = c .before .before .before .before .before .before .before .before .before .args in
-    record { within = tt; stays = held-kept (g .held) (length (g .piece .now) - g .held) (g .piece .now) (c .before .before .before .before .read .last .1 .0) (omega arith) }
-
-returns-3 : tie.Need-returns-3
-returns-3 c =
-    let g = c .before .before .before .before .before .before .before .before .before .before .before .before .args in
-    record { within = tt; stays = held-kept (g .held) (length (g .piece .now) - g .held) (g .piece .now) (c .before .before .before .before .before .before .before .read .last .1 .0) (omega arith) }
-
-returns-4 : tie.Need-returns-4
-returns-4 c =
-    let g = c .before .before .before .before .before .before .before .before .before .before .before .before .args in
-    record { within = search needs; stays = held-kept (g .held) (length (g .piece .now) - g .held) (g .piece .now) (c .before .before .before .before .before .before .before .read .last .1 .0) (omega arith) }
+    let read = c .before .before .before .before .before .before .before in
+    let g = read .before .before .before .before .before .args in
+    let room = length (putMid (g .held) (length (g .piece .now) - g .held) (g .piece .now) (read .read .last .1 .0)) in
+    let fits : g .held + c .before .count .result ≤ room = search needs in
+    record {
+      within = given-within _ (c .before .count .result) (g .held) room (c .read-of .result) (c .read-of .ensures) fits;
+      stays = held-kept (g .held) (length (g .piece .now) - g .held) (g .piece .now) (read .read .last .1 .0) (omega arith);
+    }
 
 pub read-from-spec : {M : Type 1} → statement M
 read-from-spec =
@@ -40,12 +37,9 @@ read-from-spec =
     (λ c κs. search needs)
     (λ c κs. search needs)
     (λ c. search needs)
-    returns-2
-    (λ c. search needs)
     (λ c. search needs)
     (λ c. search needs)
     (λ c κs. search needs)
+    (λ c κs. search needs)
     (λ c. search needs)
-    returns-3
-    (λ c. search needs)
-    returns-4)
+    returns-2)

@@ -1,0 +1,33 @@
+-- By whether a read failed and how many bytes it gave: what is given, and where they lie. And that bytes which are given lie within the piece.
+use mathlib.Core.Path.{_≡_, refl, sym, subst}
+use mathlib.Core.Bool.{Bool, true, false}
+use Prim.Native.Nat.{ℕ, zero, suc, _+_, _≤_}
+use native.Mathlib.Omega.{arith}
+use Rattle.io_streams.specs.Reads.{readOf, Within}
+use Rattle.io_streams.specs.declared.Read.{Read}
+use Rattle.io_streams.specs.declared.Read.the-variants.{Bytes, End, Failed}
+
+pub none-since-failed : (fails : Bool) (count : ℕ) → fails ≡ true → Failed ≡ readOf fails count
+unfolding readOf
+none-since-failed fails count failed = rw failed
+
+pub none-at-end : (fails : Bool) (count : ℕ) → fails ≡ false → count ≡ 0 → End ≡ readOf fails count
+unfolding readOf
+none-at-end fails count well none = rw (well, none)
+
+pub some-bytes : (fails : Bool) (count : ℕ) → fails ≡ false → (count ≡ 0 → ⊥) → Bytes count ≡ readOf fails count
+unfolding readOf
+some-bytes fails zero well some = absurd (some refl)
+some-bytes fails (suc more) well some = rw well
+
+within : (fails : Bool) (count held room : ℕ) → held + count ≤ room → Within held room (readOf fails count)
+unfolding readOf
+within true count held room fits = tt
+within false zero held room fits = tt
+within false (suc more) held room fits = (omega arith, fits)
+
+pub given-within : (fails : Bool) (count held room : ℕ) (given : Read) → given ≡ readOf fails count → held + count ≤ room → Within held room given
+given-within fails count held room given e fits = subst (Within held room) (sym e) (within fails count held room fits)
+
+pub bytes-within : (held room count : ℕ) (given : Read) → given ≡ Bytes count → Within held room given → held + count ≤ room
+bytes-within held room count given e w = subst (Within held room) e w .1
