@@ -1,11 +1,21 @@
-// Files by their names: whether a name is taken, and how the file that is made gets its own. Nothing of
-// this can be promised, since no contract says what the system does with a name.
+// Files by their names: whether a name is taken, and how the file that is made gets its own. What a look at a
+// name tells is promised by what the system answered; nothing else can be, since no contract says what the
+// system does with a name.
 use io_paths::c_path;
 use io_paths::folder_of;
 use io_paths::part_name;
 use io_streams::complain;
 use io_streams::failed;
 use text_put::put;
+ghost use mathlib.Core.Path.{_≡_};
+ghost use Rattle.io_names.specs.Looks.{lookOf};
+
+// What a look at a name tells: that nothing has it, that something has, or neither.
+enum Look {
+    Free,
+    Taken,
+    Unknown,
+}
 
 const LONGEST: usize = 4200;
 
@@ -31,6 +41,23 @@ pub fn complain_of_change(name: &[u8]) {
     complain_of(name, b": changed while it was read\n");
 }
 
+// What is told by whether a link was read there, whether the system said that something else is there, and
+// whether it said that nothing is.
+fn look_of(is_link: bool, is_other: bool, is_none: bool) -> Look
+    ensures { λ r. ⌜ r ≡ lookOf «is_link» «is_other» «is_none» ⌝ }
+{
+    if is_link {
+        return Look::Taken;
+    }
+    if is_other {
+        return Look::Taken;
+    }
+    if is_none {
+        return Look::Free;
+    }
+    Look::Unknown
+}
+
 // Whether nothing has this name yet, not even a link to nothing. A link can be read; of anything else that
 // is there the system says that it is none. What stands in the way is said.
 pub fn is_free(path: &[u8]) -> bool {
@@ -43,20 +70,19 @@ pub fn is_free(path: &[u8]) -> bool {
     let name = c_path(path);
     let mut text = [0u8; 1];
     let got = libc::readlink(&name, &mut text);
-    if got >= 0 {
-        complain_of(path, b": File exists\n");
-        return false;
-    }
     let why = os::errno();
-    if why == libc::EINVAL {
-        complain_of(path, b": File exists\n");
-        return false;
+    let look = look_of(got >= 0, why == libc::EINVAL, why == libc::ENOENT);
+    match look {
+        Look::Free => true,
+        Look::Taken => {
+            complain_of(path, b": File exists\n");
+            false
+        }
+        Look::Unknown => {
+            failed_at(path);
+            false
+        }
     }
-    if why != libc::ENOENT {
-        failed_at(path);
-        return false;
-    }
-    true
 }
 
 // Makes a file beside the place of this one, under the first such name that is not taken. Answers its

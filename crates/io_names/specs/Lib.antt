@@ -1,0 +1,2 @@
+-- What a reader has to believe of a look at a name.
+pub mod Looks
