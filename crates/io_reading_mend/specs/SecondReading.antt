@@ -1,32 +1,57 @@
--- What the second reading makes of a piece of the damaged file, and of what is left over at its end.
+-- What the second reading makes of a piece of the damaged file, of what is left over at its end, and of what a read gives.
 use mathlib.Core.Path.{_≡_}
+use mathlib.Core.Bool.{Bool, true, false}
 use mathlib.Core.List.{List}
-use Prim.Native.Nat.{ℕ, _≤_}
-use lib.ListN.{length, take}
-use Rattle.file_rescued.specs.Rescues.{Stepped}
-use Rattle.text_report.specs.ReportText.{reportText}
-use Rattle.io_rescue.specs.RescueSteps.{stepsOf}
+use Prim.Native.Nat.{ℕ, _+_, _≤_, _<_}
+use lib.Dec.{leb}
+use lib.ListN.{take}
+use Rattle.file_kept.specs.KeptIn.{keptIn}
 use Rattle.io_rest.specs.Rest.{wholeBytes}
+use Rattle.io_streams.specs.declared.Read.{Read}
+use Rattle.io_streams.specs.declared.Read.the-variants.{Bytes, End, Failed}
+use Rattle.io_rescue.specs.RescueSteps.{RescuesPiece}
+use Rattle.io_reading.specs.Stands.{endedAs}
 use Rattle.io_reading.specs.Passes.{Passes}
 use Rattle.io_reading.specs.declared.Standing.{Standing}
+use Rattle.io_reading_mend.specs.declared.Turned.{Turned}
 
--- what the steps make lies at the start of the output, and what they say at the start of the report
-pub record Lies (steps : Stepped) (output report : List ℕ) : Type 0 where
-  pub mended : take (length (steps .mended)) output ≡ steps .mended
-  pub said : take (length (reportText (steps .report))) report ≡ reportText (steps .report)
+-- the whole blocks among the bytes read
+abbrev pub wholeBlocks : ℕ → List ℕ → List ℕ
+wholeBlocks read found = take (wholeBytes 512 read) found
 
--- they are rescued, step by step
-pub record MendsPiece (standing : Standing) (read : ℕ) (found left output report : List ℕ) (result : Standing) : Type 0 where
-  pub passes : Passes standing read found left result
-  pub lies : Lies (stepsOf (standing .place) (standing .kept) (take (wholeBytes 512 read) found)) output report
-  pub kept : result .kept ≡ stepsOf (standing .place) (standing .kept) (take (wholeBytes 512 read) found) .next
-  pub in-range : result .kept ≤ 65536
+-- whether there are numbers for the blocks to keep of a piece
+abbrev pub hasNumbers : ℕ → List ℕ → Bool
+hasNumbers kept blocks = leb (kept + keptIn blocks) 65536
 
--- of what is left over it is said that it is
-pub record TellsRest (standing : Standing) (found report : List ℕ) (result : Standing) : Type 0 where
-  pub said :
-      take (length (reportText (stepsOf (standing .place) (standing .kept) (take (standing .held) found) .report))) report
-      ≡ reportText (stepsOf (standing .place) (standing .kept) (take (standing .held) found) .report)
-  pub place : result .place ≡ standing .place
-  pub kept : result .kept ≡ standing .kept
-  pub held : result .held ≡ standing .held
+-- They are rescued, step by step: what that makes is to be written, and what it says is to be said.
+pub record MendsPiece (standing : Standing) (read : ℕ) (found left output report : List ℕ) (result : Turned) : Type 0 where
+  pub passes : Passes standing read found left (result .standing)
+  pub rescues : RescuesPiece (standing .place) (standing .kept) (wholeBlocks read found) output report (result .taken)
+  pub kept : result .standing .kept ≡ result .taken .next
+  pub same : result .«is_changed» ≡ false
+
+-- the reading ends, well, and of what is left over it is to be said that it is
+pub record TellsRest (standing : Standing) (found output report : List ℕ) (result : Turned) : Type 0 where
+  pub ends : result .standing ≡ endedAs true standing
+  pub rescues : RescuesPiece (standing .place) (standing .kept) (take (standing .held) found) output report (result .taken)
+  pub same : result .«is_changed» ≡ false
+
+-- the reading ends, not well, with nothing to write or to say of the file; and whether that is because the file is another than it was
+pub record Breaks (standing : Standing) (changed : Bool) (result : Turned) : Type 0 where
+  pub ends : result .standing ≡ endedAs false standing
+  pub no-bytes : result .taken .bytes ≡ 0
+  pub no-lines : result .taken .lines ≡ 0
+  pub same : result .«is_changed» ≡ changed
+
+-- a piece, by whether there are numbers for its blocks: the first reading has seen to it, unless the file is another by now
+abbrev pub TakesPiece : Bool → Standing → ℕ → List ℕ → List ℕ → List ℕ → List ℕ → Turned → Type 0
+TakesPiece true standing read found left output report result = MendsPiece standing read found left output report result
+TakesPiece false standing read found left output report result = Breaks standing true result
+
+-- By what a read gives: more bytes behind those held, which are a piece with them; the end, at which those held are left over; or nothing, since it
+-- failed.
+abbrev pub MendsRead : Read → Standing → List ℕ → List ℕ → List ℕ → List ℕ → Turned → Type 0
+MendsRead (Bytes count) standing found left output report result =
+    TakesPiece (hasNumbers (standing .kept) (wholeBlocks (standing .held + count) found)) standing (standing .held + count) found left output report result
+MendsRead End standing found left output report result = TellsRest standing found output report result
+MendsRead Failed standing found left output report result = Breaks standing false result

@@ -1,5 +1,6 @@
 // The second reading of a damaged file, in pieces of a fixed size: it writes what the blocks become, and
-// says the report.
+// says the report. What is to be written and said after a read, and where the reading stands then, is promised
+// by what the read gave (`answered`); that it is written and said is not.
 //
 // The inner functions have a `requires`: the sizes of the three pieces, a place that leaves room for those of
 // one more, a number that there is or the one after the last, less than a block held, and for `is_put` no more
@@ -13,25 +14,157 @@ use io_progress::erase;
 use io_progress::put_name;
 use io_progress::shown;
 use io_reading::Standing;
+use io_reading::after_turns;
+use io_reading::after_write;
 use io_reading::begun;
 use io_reading::ended;
 use io_reading::read_named;
 use io_rescue::Taken;
 use io_rescue::rescue_piece;
 use io_rest::keep_rest;
+use io_rest::whole_bytes;
 use io_streams::Read;
+use io_streams::most_turns;
 use io_streams::write;
 use io_streams::write_to;
 ghost use mathlib.Core.Path.{_≡_};
-ghost use mathlib.Core.Bool.{true};
+ghost use mathlib.Core.Bool.{true, false};
 ghost use Prim.Native.Nat.{_+_, _≤_, _<_};
 ghost use lib.ListN.{length, take};
 ghost use Rattle.io.specs.Counts.{Counts};
-ghost use Rattle.io_rest.specs.Rest.{wholeBytes};
-ghost use Rattle.file_kept.specs.KeptIn.{keptIn};
-ghost use Rattle.io_reading_mend.specs.SecondReading.{MendsPiece, TellsRest};
+ghost use Rattle.io_streams.specs.Reads.{Within};
+ghost use Rattle.io_reading_mend.specs.SecondReading.{wholeBlocks, hasNumbers, MendsPiece, TellsRest, Breaks, TakesPiece, MendsRead};
 
-// Writes what was put of a piece: the blocks to the file that is made, and then what is said of them, to a
+// What comes of a read: where the reading stands then, how much there is to write and to say, and whether the
+// file has turned out to be another than it was.
+struct Turned {
+    standing: Standing,
+    taken: Taken,
+    is_changed: bool,
+}
+
+// The reading breaks off: there is nothing to write or to say of the file's blocks.
+fn broken(standing: Standing, is_changed: bool) -> Turned
+    ensures { λ r. ⌜ Breaks standing «is_changed» r ⌝ }
+{
+    let next = standing.kept;
+    Turned {
+        standing: ended(standing, false),
+        taken: Taken {
+            bytes: 0,
+            lines: 0,
+            next,
+        },
+        is_changed,
+    }
+}
+
+// Rescues the whole blocks of the first `read` bytes. What is left of the bytes is held.
+fn blocks_mended(
+    input: &mut [u8],
+    standing: Standing,
+    read: usize,
+    output: &mut [u8],
+    report: &mut [u8],
+) -> Turned
+    requires { ⌜ (read ≤ 61440) × (length (now input) ≡ 61440) × (length (now output) ≡ 61440) × (length (now report) ≡ 9960) × (standing .place < 4611686018427387904) × (standing .kept ≤ 65536) ⌝ }
+    ensures { λ r. ⌜ MendsPiece standing read (now (input .entry)) (now (input .exit)) (now (output .exit)) (now (report .exit)) r ⌝ }
+{
+    let blocks = read / 512;
+    let whole = whole_bytes(512, read);
+    let taken = rescue_piece(
+        standing.place,
+        standing.kept,
+        &input[..whole],
+        output,
+        report,
+    );
+    let held = keep_rest(input, 512, read);
+    Turned {
+        standing: Standing {
+            place: standing.place + blocks as u64,
+            kept: taken.next,
+            held,
+            goes_on: true,
+            is_well: true,
+        },
+        taken,
+        is_changed: false,
+    }
+}
+
+// Whether there are numbers for the blocks to keep among the whole ones of the first `read` bytes. Of 120
+// blocks that is asked only where it may not be so.
+fn has_numbers(kept: u64, input: &[u8], read: usize) -> bool
+    requires { ⌜ (kept ≤ 65536) × (read ≤ 61440) × (length (now input) ≡ 61440) ⌝ }
+    ensures { λ r. ⌜ r ≡ hasNumbers kept (wholeBlocks read (now (input .entry))) ⌝ }
+{
+    if kept <= 65416 {
+        return true;
+    }
+    let whole = whole_bytes(512, read);
+    let more = count_kept(&input[..whole]);
+    kept + more as u64 <= 65536
+}
+
+// A piece. The first reading has seen to it that there are numbers for its blocks; where there are none, the
+// file is another by now.
+fn piece_mended(
+    input: &mut [u8],
+    standing: Standing,
+    read: usize,
+    output: &mut [u8],
+    report: &mut [u8],
+) -> Turned
+    requires { ⌜ (read ≤ 61440) × (length (now input) ≡ 61440) × (length (now output) ≡ 61440) × (length (now report) ≡ 9960) × (standing .place < 4611686018427387904) × (standing .kept ≤ 65536) ⌝ }
+    ensures { λ r. ⌜ TakesPiece (hasNumbers (standing .kept) (wholeBlocks read (now (input .entry)))) standing read (now (input .entry)) (now (input .exit)) (now (output .exit)) (now (report .exit)) r ⌝ }
+{
+    if has_numbers(standing.kept, input, read) {
+        return blocks_mended(input, standing, read, output, report);
+    }
+    broken(standing, true)
+}
+
+// The file has ended: what is held are stray bytes.
+fn rest_told(input: &[u8], standing: Standing, output: &mut [u8], report: &mut [u8]) -> Turned
+    requires { ⌜ (length (now input) ≡ 61440) × (length (now output) ≡ 61440) × (length (now report) ≡ 9960) × (standing .place < 4611686018427387904) × (standing .kept ≤ 65536) × (standing .held < 512) ⌝ }
+    ensures { λ r. ⌜ TellsRest standing (now (input .entry)) (now (output .exit)) (now (report .exit)) r ⌝ }
+{
+    let held = standing.held;
+    let taken = rescue_piece(
+        standing.place,
+        standing.kept,
+        &input[..held],
+        output,
+        report,
+    );
+    Turned {
+        standing: ended(standing, true),
+        taken,
+        is_changed: false,
+    }
+}
+
+// What comes of a read, by what it gave.
+fn answered(
+    got: Read,
+    input: &mut [u8],
+    standing: Standing,
+    output: &mut [u8],
+    report: &mut [u8],
+) -> Turned
+    requires { ⌜ (length (now input) ≡ 61440) × (length (now output) ≡ 61440) × (length (now report) ≡ 9960) × (standing .place < 4611686018427387904) × (standing .kept ≤ 65536) × (standing .held < 512) × Within (standing .held) (length (now input)) got ⌝ }
+    ensures { λ r. ⌜ MendsRead got standing (now (input .entry)) (now (input .exit)) (now (output .exit)) (now (report .exit)) r ⌝ }
+{
+    let held = standing.held;
+    match got {
+        Read::Bytes(count) => piece_mended(input, standing, held + count, output, report),
+        Read::End => rest_told(input, standing, output, report),
+        Read::Failed => broken(standing, false),
+    }
+}
+
+// Writes what was put after a read: the blocks to the file that is made, and then what is said of them, to a
 // terminal in the place of how far the run is.
 fn is_put(
     descriptor: i32,
@@ -57,113 +190,7 @@ fn is_put(
     write(&report[..lines])
 }
 
-// Rescues the whole blocks of the first `read` bytes. What is left of the bytes is held.
-fn blocks_mended(
-    descriptor: i32,
-    name: &[u8],
-    input: &mut [u8],
-    standing: Standing,
-    read: usize,
-    output: &mut [u8],
-    report: &mut [u8],
-    shows: Progress,
-) -> Standing
-    requires { ⌜ (read ≤ 61440) × (length (now input) ≡ 61440) × (length (now output) ≡ 61440) × (length (now report) ≡ 9960) × (standing .place < 4611686018427387904) × (standing .kept ≤ 65536) ⌝ }
-    ensures { λ r. ⌜ MendsPiece standing read (now (input .entry)) (now (input .exit)) (now (output .exit)) (now (report .exit)) r ⌝ }
-{
-    let blocks = read / 512;
-    let whole = 512 * blocks;
-    let taken = rescue_piece(
-        standing.place,
-        standing.kept,
-        &input[..whole],
-        output,
-        report,
-    );
-    let is_well = is_put(descriptor, name, output, report, taken, shows);
-    let held = keep_rest(input, 512, read);
-    Standing {
-        place: standing.place + blocks as u64,
-        kept: taken.next,
-        held,
-        goes_on: is_well,
-        is_well,
-    }
-}
-
-// Whether there are numbers for the blocks to keep among the whole ones of the first `read` bytes. The
-// first reading has seen to it; but the file may be another by now. Of 120 blocks that is asked only
-// where it may not be so.
-fn has_numbers(kept: u64, input: &[u8], read: usize) -> bool
-    requires { ⌜ (kept ≤ 65536) × (read ≤ 61440) × (length (now input) ≡ 61440) ⌝ }
-    ensures { λ r. ⌜ (r ≡ true → kept + keptIn (take (wholeBytes 512 read) (now (input .entry))) ≤ 65536) ⌝ }
-{
-    if kept <= 65416 {
-        return true;
-    }
-    let whole = 512 * (read / 512);
-    let more = count_kept(&input[..whole]);
-    kept + more as u64 <= 65536
-}
-
-// The same where there are, and else a file that has changed.
-fn piece_mended(
-    name: &[u8],
-    made: i32,
-    made_name: &[u8],
-    input: &mut [u8],
-    standing: Standing,
-    read: usize,
-    output: &mut [u8],
-    report: &mut [u8],
-    shows: Progress,
-) -> Standing
-    requires { ⌜ (read ≤ 61440) × (length (now input) ≡ 61440) × (length (now output) ≡ 61440) × (length (now report) ≡ 9960) × (standing .place < 4611686018427387904) × (standing .kept ≤ 65536) × (standing .held < 512) ⌝ }
-    ensures { λ r. ⌜ (r .place ≤ standing .place + 120) × (r .kept ≤ 65536) × (r .held < 512) ⌝ }
-{
-    if has_numbers(standing.kept, input, read) {
-        return blocks_mended(
-            made,
-            made_name,
-            input,
-            standing,
-            read,
-            output,
-            report,
-            shows,
-        );
-    }
-    erase(shows);
-    complain_of_change(name);
-    ended(standing, false)
-}
-
-// The file has ended: what is held are stray bytes.
-fn rest_told(
-    descriptor: i32,
-    name: &[u8],
-    input: &[u8],
-    standing: Standing,
-    output: &mut [u8],
-    report: &mut [u8],
-    shows: Progress,
-) -> Standing
-    requires { ⌜ (length (now input) ≡ 61440) × (length (now output) ≡ 61440) × (length (now report) ≡ 9960) × (standing .place < 4611686018427387904) × (standing .kept ≤ 65536) × (standing .held < 512) ⌝ }
-    ensures { λ r. ⌜ TellsRest standing (now (input .entry)) (now (report .exit)) r ⌝ }
-{
-    let held = standing.held;
-    let taken = rescue_piece(
-        standing.place,
-        standing.kept,
-        &input[..held],
-        output,
-        report,
-    );
-    let is_well = is_put(descriptor, name, output, report, taken, shows);
-    ended(standing, is_well)
-}
-
-// One read, and what comes of it.
+// One read, what comes of it, and where the reading stands once that is written.
 fn mend_turn(
     descriptor: i32,
     name: &[u8],
@@ -180,21 +207,15 @@ fn mend_turn(
 {
     let held = standing.held;
     let got = read_named(descriptor, name, shows, input, held);
-    match got {
-        Read::Bytes(count) => piece_mended(
-            name,
-            made,
-            made_name,
-            input,
-            standing,
-            held + count,
-            output,
-            report,
-            shows,
-        ),
-        Read::End => rest_told(made, made_name, input, standing, output, report, shows),
-        Read::Failed => ended(standing, false),
+    let turned = answered(got, input, standing, output, report);
+    if turned.is_changed {
+        erase(shows);
+        complain_of_change(name);
     }
+    let stands = turned.standing;
+    let taken = turned.taken;
+    let is_written = is_put(made, made_name, output, report, taken, shows);
+    after_write(stands, is_written)
 }
 
 // Reads the file to its end, writes what comes of its blocks, and says the report. Answers what
@@ -205,13 +226,15 @@ pub fn mend_pass(
     made: i32,
     made_name: &[u8],
     progress: Progress,
-) -> Standing {
+) -> Standing
+    ensures { λ r. ⌜ r .«goes_on» ≡ false ⌝ }
+{
     let mut input = [0u8; 61440];
     let mut output = [0u8; 61440];
     let mut report = [0u8; 9960];
     let mut standing = begun();
     let mut shows = progress;
-    let mut turns = 0x20_0000_0000_0000u64;
+    let mut turns = most_turns();
     while turns > 0 && standing.goes_on {
         turns -= 1;
         standing = mend_turn(
@@ -227,6 +250,5 @@ pub fn mend_pass(
         );
         shows = shown(shows, progress.size / 512 + standing.place);
     }
-    erase(shows);
-    standing
+    after_turns(standing, name, shows)
 }

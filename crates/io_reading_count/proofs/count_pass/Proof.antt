@@ -1,18 +1,30 @@
 -- It ends: the turns are counted down. No number wraps: a turn adds 120 at most.
-use mathlib.Core.Path.{_≡_}
+use mathlib.Core.Path.{_≡_, ap}
 use Prim.Native.Nat.{_+_, _*_, _≤_, _<_}
 use native.Mathlib.Omega.{arith}
 use borrow.Author.Needs.{needs}
 use lib.ListN.{length}
+use Rattle.io_streams.specs.Reads.{mostTurns}
+use Rattle.io_reading.specs.declared.Standing.{Standing}
+use Rattle.io_reading.proofs.Ends.{goes-no-further}
 use Rattle.io_reading_count.proofs.count_pass.Statement.{statement}
 use Rattle.io_reading_count.proofs.count_pass.Tie as tie
 
 abbrev Inv-loop : tie.InvT-loop
 Inv-loop descriptor name input₀ standing₀ shows₀ turns₀ input standing shows turns =
-    (length input ≡ 61440) × (standing .held < 512) × (standing .place + 120 * turns ≤ 120 * 9007199254740992) × (standing .kept + 120 * turns ≤ 120 * 9007199254740992)
+    (length input ≡ 61440) × (standing .held < 512) × (standing .place + 120 * turns ≤ 120 * mostTurns) × (standing .kept + 120 * turns ≤ 120 * mostTurns)
 
 abbrev μ-loop : tie.MeasureT-loop
 μ-loop descriptor name input₀ standing₀ shows₀ turns₀ input standing shows turns = turns
+
+loop-holds : tie.Need-loop-holds Inv-loop μ-loop
+loop-holds c =
+    let begins = c .before .begun .ensures in
+    let turns = c .most-turns .ensures in
+    (omega arith, omega (arith, ap (λ (s : Standing). s .held) begins), omega (arith, turns, ap (λ (s : Standing). s .place) begins), omega (arith, turns, ap (λ (s : Standing). s .kept) begins))
+
+returns : tie.Need-returns Inv-loop μ-loop
+returns c = goes-no-further (c .before .before .loop .standing) (c .after-turns .result) (c .after-turns .ensures)
 
 pub count-pass-spec : {M : Type 1} → statement M
 count-pass-spec =
@@ -21,7 +33,8 @@ count-pass-spec =
     Inv-loop
     μ-loop
     (λ c κs. search needs)
-    (λ c. search needs)
+    (λ c κs. search needs)
+    loop-holds
     (λ c. search needs)
     (λ c. search needs)
     (λ c κs. search needs)
@@ -29,4 +42,4 @@ count-pass-spec =
     (λ c. search needs)
     (λ c. search needs)
     (λ c κs. search needs)
-    (λ c. search needs))
+    returns)

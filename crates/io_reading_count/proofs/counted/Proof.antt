@@ -1,41 +1,55 @@
 -- The whole blocks lie within the piece. What is left of them is kept.
-use mathlib.Core.Path.{refl, ap}
-use Prim.Native.Nat.{ℕ, _+_, _*_, _/_}
+use mathlib.Core.Path.{_≡_, refl, ap, _∙_}
+use Prim.Native.Nat.{ℕ, _+_}
 use native.Mathlib.Omega.{arith}
 use borrow.Author.Needs.{needs}
 use lib.ListN.{take, length-take}
 use Rattle.io.proofs.Counting.{front}
+use Rattle.io_rest.specs.Rest.{wholeBytes}
+use Rattle.io_rest.proofs.Rests.{whole-within}
+use Rattle.file_kept.specs.KeptIn.{keptIn}
 use Rattle.file_kept.proofs.PieceBounds.{kept-120}
 use Rattle.io_reading_count.proofs.counted.Statement.{statement}
 use Rattle.io_reading_count.proofs.counted.Tie as tie
 
 slice-aggregate-count-kept : tie.Need-slice-aggregate-count-kept
 slice-aggregate-count-kept c =
-    let g = c .before .before .args in
-    front (512 * (g .read / 512)) (g .input .now) (omega arith)
+    let whole = c .before in
+    let start = whole .before .before in
+    front (whole .whole-bytes .result) (start .args .input .now) (omega (arith, whole .whole-bytes .ensures, whole-within 512 (start .args .read), start .pre .0, start .pre .1))
+
+-- so many of them are kept
+kept : (c : tie.After-count-kept) →
+    let g = c .before .before .before .before .args in
+    c .count-kept .result ≡ keptIn (take (wholeBytes 512 (g .read)) (g .input .now))
+kept c =
+    let whole = c .before .before in
+    let g = whole .before .before .args in
+    c .count-kept .ensures ∙ ap (λ (n : ℕ). keptIn (take n (g .input .now))) (whole .whole-bytes .ensures)
 
 add-kept : tie.Need-add-t15
 add-kept c =
     let called = c .before .before .before .before .before .before in
-    let g = called .before .before .before .args in
-    let bytes = take (512 * (g .read / 512)) (g .input .now) in
-    omega (arith, called .count-kept .ensures, kept-120 bytes (omega (arith, length-take (512 * (g .read / 512)) (g .input .now))))
+    let start = called .before .before .before .before in
+    let g = start .args in
+    let bytes = take (wholeBytes 512 (g .read)) (g .input .now) in
+    omega (arith, kept called, kept-120 bytes (omega (arith, start .pre .0, whole-within 512 (g .read), length-take (wholeBytes 512 (g .read)) (g .input .now))))
 
 returns : tie.Need-returns
 returns c =
-    let kept = c .before .before .before .before in
-    let called = kept .before .before in
-    let g = called .before .before .before .args in
+    let rest = c .before .before .before .before in
+    let called = rest .before .before in
+    let g = called .before .before .before .before .args in
     record {
-      passes = record { place = refl; keeps = kept .keep-rest .ensures };
-      kept = ap (λ (n : ℕ). g .standing .kept + n) (called .count-kept .ensures);
+      passes = record { place = refl; keeps = rest .keep-rest .ensures; on = refl; well = refl };
+      kept = ap (λ (n : ℕ). g .standing .kept + n) (kept called);
     }
 
 pub counted-spec : {M : Type 1} → statement M
 counted-spec =
     tie.close
     (tie.spec
-    (λ c. search needs)
+    (λ c κs. search needs)
     (λ c. search needs)
     slice-aggregate-count-kept
     (λ c κs. search needs)

@@ -1,64 +1,63 @@
 -- The whole blocks lie within the piece, and so does what they become within the output. What is left of them is kept.
-use mathlib.Core.Path.{refl}
-use Prim.Native.Nat.{_*_, _/_}
+use mathlib.Core.Path.{refl, subst}
+use mathlib.Core.List.{List}
+use Prim.Native.Nat.{ℕ}
 use native.Mathlib.Omega.{arith}
 use borrow.Author.Needs.{needs}
 use lib.ListN.{take, length-take}
 use Rattle.io.proofs.Counting.{front}
+use Rattle.io_rest.proofs.Rests.{whole-within}
 use Rattle.io_rescue.specs.RescueSteps.{RescuesPiece}
-use Rattle.io_reading_mend.proofs.Lying.{they-lie}
+use Rattle.io_reading_mend.specs.SecondReading.{wholeBlocks}
 use Rattle.io_reading_mend.proofs.blocks_mended.Statement.{statement}
 use Rattle.io_reading_mend.proofs.blocks_mended.Tie as tie
 
 slice-aggregate-rescue-piece : tie.Need-slice-aggregate-rescue-piece
 slice-aggregate-rescue-piece c =
-    let g = c .before .before .before .before .before .args in
-    front (512 * (g .read / 512)) (g .input .now) (omega arith)
+    let whole = c .before in
+    let start = whole .before .before .before .before in
+    front (whole .whole-bytes .result) (start .args .input .now) (omega (arith, whole .whole-bytes .ensures, whole-within 512 (start .args .read), start .pre .0, start .pre .1))
 
 -- there is room for a piece
 done : (c : tie.After-rescue-piece) →
     let g = c .before .before .before .before .before .before .before .before .args in
-    RescuesPiece (g .standing .place) (g .standing .kept) (take (512 * (g .read / 512)) (g .input .now)) (c .rescue-piece .last .1 .1 .1 .0) (c .rescue-piece .last .1 .1 .1 .1 .0) (c .rescue-piece .result)
+    RescuesPiece (g .standing .place) (g .standing .kept) (wholeBlocks (g .read) (g .input .now)) (c .rescue-piece .last .1 .1 .1 .0) (c .rescue-piece .last .1 .1 .1 .1 .0) (c .rescue-piece .result)
 done c =
-    let start = c .before .before .before .before .before .before .before .before in
+    let whole = c .before .before .before .before in
+    let start = whole .before .before .before .before in
     let g = start .args in
-    c .rescue-piece .ensures
+    let size = whole .whole-bytes .result in
+    let outLeft = c .rescue-piece .last .1 .1 .1 .0 in
+    let reportLeft = c .rescue-piece .last .1 .1 .1 .1 .0 in
+    subst (λ (n : ℕ). RescuesPiece (g .standing .place) (g .standing .kept) (take n (g .input .now)) outLeft reportLeft (c .rescue-piece .result)) (whole .whole-bytes .ensures)
+    (c .rescue-piece .ensures
     (record {
       places = omega (arith, start .pre .4);
       numbers = start .pre .5;
-      few = omega (arith, start .pre .0, length-take (512 * (g .read / 512)) (g .input .now));
+      few = omega (arith, start .pre .0, whole .whole-bytes .ensures, whole-within 512 (g .read), length-take size (g .input .now));
       blocks = omega (arith, start .pre .2);
       lines = omega (arith, start .pre .3);
-    })
-
-is-put-requires : tie.Need-is-put-requires
-is-put-requires c κs =
-    let called = c .before .before .before .before .before .before in
-    (done called .bytes-counted, done called .lines-counted)
+    }))
 
 returns : tie.Need-returns
 returns c =
     let kept = c .before .before .before in
-    let put = kept .before .before in
-    let called = put .before .before .before .before .before .before .before in
-    let start = called .before .before .before .before .before .before .before .before in
-    let g = start .args in
+    let called = kept .before .before .before .before .before .before in
     record {
-      passes = record { place = refl; keeps = kept .keep-rest .ensures };
-      lies = they-lie (g .standing .place) (g .standing .kept) (take (512 * (g .read / 512)) (g .input .now)) _ _ (called .rescue-piece .result) (done called);
-      kept = done called .next;
-      in-range = done called .in-range;
+      passes = record { place = refl; keeps = kept .keep-rest .ensures; on = refl; well = refl };
+      rescues = done called;
+      kept = refl;
+      same = refl;
     }
 
 pub blocks-mended-spec : {M : Type 1} → statement M
 blocks-mended-spec =
     tie.close
     (tie.spec
-    (λ c. search needs)
+    (λ c κs. search needs)
     (λ c. search needs)
     slice-aggregate-rescue-piece
     (λ c κs. search needs)
-    is-put-requires
     (λ c κs. search needs)
     (λ c. search needs)
     (λ c. search needs)

@@ -1,24 +1,24 @@
 -- What is held lies within the piece.
 use native.Mathlib.Omega.{arith}
+use mathlib.Core.Path.{refl}
 use borrow.Author.Needs.{needs}
 use lib.ListN.{take, length-take}
 use Rattle.io.proofs.Counting.{front}
 use Rattle.io_rescue.specs.RescueSteps.{RescuesPiece}
-use Rattle.io_reading_mend.proofs.Lying.{they-lie}
 use Rattle.io_reading_mend.proofs.rest_told.Statement.{statement}
 use Rattle.io_reading_mend.proofs.rest_told.Tie as tie
 
 slice-aggregate-rescue-piece : tie.Need-slice-aggregate-rescue-piece
 slice-aggregate-rescue-piece c =
-    let start = c .before .before .before .before .before in
+    let start = c .before .before .before .before in
     front (start .args .standing .held) (start .args .input .now) (omega (arith, start .pre .0, start .pre .5))
 
 -- there is room for it
 done : (c : tie.After-rescue-piece) →
-    let g = c .before .before .before .before .before .before .before .before .args in
+    let g = c .before .before .before .before .before .before .before .args in
     RescuesPiece (g .standing .place) (g .standing .kept) (take (g .standing .held) (g .input .now)) (c .rescue-piece .last .1 .1 .1 .0) (c .rescue-piece .last .1 .1 .1 .1 .0) (c .rescue-piece .result)
 done c =
-    let start = c .before .before .before .before .before .before .before .before in
+    let start = c .before .before .before .before .before .before .before in
     let g = start .args in
     c .rescue-piece .ensures
     (record {
@@ -29,23 +29,8 @@ done c =
       lines = omega (arith, start .pre .2);
     })
 
-is-put-requires : tie.Need-is-put-requires
-is-put-requires c κs =
-    let called = c .before .before .before .before .before .before in
-    (done called .bytes-counted, done called .lines-counted)
-
 returns : tie.Need-returns
-returns c =
-    let put = c .before in
-    let called = put .before .before .before .before .before .before .before in
-    let g = called .before .before .before .before .before .before .before .before .args in
-    let end = c .ended .ensures in
-    record {
-      said = they-lie (g .standing .place) (g .standing .kept) (take (g .standing .held) (g .input .now)) _ _ (called .rescue-piece .result) (done called) .said;
-      place = end .0;
-      kept = end .1;
-      held = end .2;
-    }
+returns c = record { ends = c .ended .ensures; rescues = done (c .before .before .before .before .before); same = refl }
 
 pub rest-told-spec : {M : Type 1} → statement M
 rest-told-spec =
@@ -53,7 +38,6 @@ rest-told-spec =
     (tie.spec
     slice-aggregate-rescue-piece
     (λ c κs. search needs)
-    is-put-requires
     (λ c κs. search needs)
     (λ c. search needs)
     (λ c. search needs)

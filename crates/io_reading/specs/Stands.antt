@@ -1,0 +1,24 @@
+-- Where a reading of a damaged file stands as it begins and as it ends, and whether two readings found the same.
+use mathlib.Core.Bool.{Bool, true, false, cond, _&&_}
+use lib.Dec.{eqb}
+use Rattle.io_reading.specs.declared.Standing.{Standing}
+
+-- as it begins: nothing is read, there is more, and nothing has failed
+abbrev pub atStart : Standing
+atStart = record { place = 0; kept = 0; held = 0; «goes_on» = true; «is_well» = true }
+
+-- as it ends here, well or not: what was found stays, and nothing more is read
+abbrev pub endedAs : Bool → Standing → Standing
+endedAs well standing = record { place = standing .place; kept = standing .kept; held = standing .held; «goes_on» = false; «is_well» = well }
+
+-- after the last turn that there may be: a reading that still goes on has not come to the file's end, and is not well
+abbrev pub afterTurns : Standing → Standing
+afterTurns standing = cond (standing .«goes_on») (endedAs false standing) standing
+
+-- after a write: where it stood, or if it could not be written, the end, which is not well
+abbrev pub afterWrite : Bool → Standing → Standing
+afterWrite written standing = cond written standing (endedAs false standing)
+
+-- as many blocks, as many that are kept, and as many bytes left over
+abbrev pub sameTotals : Standing → Standing → Bool
+sameTotals first second = eqb (first .place) (second .place) && eqb (first .kept) (second .kept) && eqb (first .held) (second .held)
