@@ -1,12 +1,11 @@
 -- By what the read gave: what was read lies within the piece, and what is known to be whole of what is held is no more than that.
 use mathlib.Core.Path.{sym, subst}
-use Prim.Native.Nat.{ℕ}
+use Prim.Native.Nat.{ℕ, _+_, _≤_}
 use native.Mathlib.Omega.{arith}
 use borrow.Author.Needs.{needs}
 use lib.ListN.{length, take}
-use Rattle.io_streams.specs.Reads.{Within}
 use Rattle.io_streams.specs.declared.Read.{Read}
-use Rattle.io_streams.specs.declared.Read.the-variants.{Bytes}
+use Rattle.io_streams.proofs.ReadsGiven.{bytes-within}
 use Rattle.io_transfer.specs.Transfer.{TakesLast, AnswersRead}
 use Rattle.io_transfer.proofs.Taken.{known-within}
 use Rattle.io_transfer.proofs.answered.Statement.{statement}
@@ -14,16 +13,16 @@ use Rattle.io_transfer.proofs.answered.Tie as tie
 
 read-within : (c : tie.After-got) →
     let g = c .before .before .before .before .args in
-    Within (g .standing .held) (length (g .input .now)) (Bytes (c .got .given .0 .0))
+    g .standing .held + c .got .given .0 .0 ≤ length (g .input .now)
 read-within c =
     let start = c .before .before .before .before in
-    subst (λ (r : Read). Within (start .args .standing .held) (length (start .args .input .now)) r) (c .got .given .1) (start .pre .4)
+    bytes-within (start .args .standing .held) (length (start .args .input .now)) (c .got .given .0 .0) (start .args .got) (c .got .given .1) (start .pre .4)
 
 blocks-read-requires : tie.Need-blocks-read-requires
 blocks-read-requires c κs =
     let told = c .before .before .before in
     let start = told .before .before .before .before in
-    (start .pre .0, omega (arith, read-within told .1, start .pre .2), start .pre .2, start .pre .3)
+    (start .pre .0, omega (arith, read-within told, start .pre .2), start .pre .2, start .pre .3)
 
 last-block-requires-2 : tie.Need-last-block-requires-2
 last-block-requires-2 c κs =
@@ -62,7 +61,7 @@ answered-spec =
     tie.close
     (tie.spec
     (λ c. search needs)
-    (λ c. omega (arith, read-within (c .before .before) .1, c .before .before .before .before .before .before .pre .2))
+    (λ c. omega (arith, read-within (c .before .before), c .before .before .before .before .before .before .pre .2))
     blocks-read-requires
     (λ c. search needs)
     (λ c κs. search needs)

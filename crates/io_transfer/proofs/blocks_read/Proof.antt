@@ -1,17 +1,14 @@
 -- The whole blocks lie within the piece, and so does what they become within the output. What is left of them is kept.
-use mathlib.Core.Path.{_≡_, sym, _∙_, ap, subst}
-use Prim.Native.Nat.{ℕ, _+_, _≤_, _<_}
+use mathlib.Core.Path.{_≡_, refl, _∙_, ap, subst}
+use Prim.Native.Nat.{ℕ, _≤_, _<_}
 use native.Mathlib.Omega.{arith}
 use borrow.Author.Needs.{needs}
-use lib.ListN.{length, take, length-take}
+use lib.ListN.{take, length-take}
 use Rattle.io.proofs.Counting.{front}
-use Rattle.law_lists.specs.Portions.{portions}
-use Rattle.text_put.proofs.Texts.{lies-there}
 use Rattle.io_portion.specs.OnePortion.{sizeOf}
-use Rattle.io_blocks.specs.PutBlocks.{blocksOf, PutsBlocks}
+use Rattle.io_blocks.specs.PutBlocks.{PutsBlocks}
 use Rattle.io_rest.specs.Rest.{wholeBytes, KeepsRest}
 use Rattle.io_rest.proofs.Rests.{whole-within}
-use Rattle.io_transfer.specs.Transfer.{Lies}
 use Rattle.io_transfer.proofs.Taken.{size-some}
 use Rattle.io_transfer.proofs.blocks_read.Statement.{statement}
 use Rattle.io_transfer.proofs.blocks_read.Tie as tie
@@ -38,38 +35,28 @@ slice-aggregate-put-blocks c =
 
 -- what becomes of them: they are few enough, and there is room
 done : (c : tie.After-put-blocks) →
-    let called = c .before .before .before in
-    let g = called .before .before .before .before .args in
-    PutsBlocks (g .way) (g .number) (take (called .whole-bytes .result) (g .input .now)) (c .put-blocks .last .1 .1 .1 .0) (c .put-blocks .result)
+    let g = c .before .before .before .before .before .before .before .args in
+    PutsBlocks (g .way) (g .number) (take (wholeBytes (sizeOf (g .way)) (g .read)) (g .input .now)) (c .put-blocks .last .1 .1 .1 .0) (c .put-blocks .result)
 done c =
     let called = c .before .before .before in
     let start = called .before .before .before .before in
-    c .put-blocks .ensures
-    (start .pre .0, omega (arith, within called, start .pre .1, length-take (called .whole-bytes .result) (start .args .input .now)), omega (arith, start .pre .3))
-
-settled-requires : tie.Need-settled-requires
-settled-requires c κs = done (c .before .before .before) .counts .0
+    let g = start .args in
+    let output = c .put-blocks .last .1 .1 .1 .0 in
+    subst (λ (n : ℕ). PutsBlocks (g .way) (g .number) (take n (g .input .now)) output (c .put-blocks .result)) (counted called)
+    (c .put-blocks .ensures
+    (start .pre .0, omega (arith, within called, start .pre .1, length-take (called .whole-bytes .result) (g .input .now)), omega (arith, start .pre .3)))
 
 returns : tie.Need-returns
 returns c =
     let kept = c .before .before in
-    let settled = kept .before .before in
-    let put = settled .before .before .before .before in
-    let called = put .before .before .before in
-    let start = called .before .before .before .before in
-    let g = start .args in
-    let n = called .whole-bytes .result in
-    let its : n ≡ wholeBytes (sizeOf (g .way)) (g .read) = counted called in
-    let done = done put in
-    let out = put .put-blocks .last .1 .1 .1 .0 in
+    let put = kept .before .before .before .before in
+    let sized = put .before .before .before .before in
+    let g = sized .before .before .before .args in
     record {
-      lies =
-          subst (λ (k : ℕ). Lies (blocksOf (g .way) (g .number) (take k (g .input .now))) out) its
-          (lies-there (put .put-blocks .result .count) out (blocksOf (g .way) (g .number) (take n (g .input .now)) .given) (done .counts) (done .given));
-      whole-so-far = λ e. ap (λ (k : ℕ). blocksOf (g .way) (g .number) (take k (g .input .now)) .end) (sym its) ∙ sym (done .end) ∙ settled .settled .ensures e;
-      on = λ e. done .on (sym (done .end) ∙ settled .settled .ensures e) ∙ ap (λ (k : ℕ). g .number + length (portions (sizeOf (g .way)) (take k (g .input .now)))) its;
-      keeps = subst (λ (size : ℕ). KeepsRest size (g .read) (g .input .now) (kept .keep-rest .last .0) (kept .keep-rest .result)) (called .before .size-of .ensures) (kept .keep-rest .ensures);
-      in-range = done .in-range;
+      puts = done put;
+      next = refl;
+      keeps = subst (λ (size : ℕ). KeepsRest size (g .read) (g .input .now) (kept .keep-rest .last .0) (kept .keep-rest .result)) (sized .size-of .ensures) (kept .keep-rest .ensures);
+      on = refl;
     }
 
 -- a block has a byte at least
@@ -78,7 +65,7 @@ size-here c = omega (arith, c .size-of .ensures, size-some (c .before .before .b
 
 keep-rest-requires : tie.Need-keep-rest-requires
 keep-rest-requires c κs =
-    let sized = c .before .before .before .before .before .before .before .before .before in
+    let sized = c .before .before .before .before .before .before .before in
     let start = sized .before .before .before in
     (size-here sized, omega (arith, start .pre .1, start .pre .2))
 
@@ -91,7 +78,6 @@ blocks-read-spec =
     (λ c. omega (arith, within c))
     slice-aggregate-put-blocks
     (λ c κs. search needs)
-    settled-requires
     keep-rest-requires
     (λ c. search needs)
     (λ c. search needs)

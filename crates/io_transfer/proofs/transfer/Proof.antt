@@ -20,6 +20,7 @@ transfer-spec =
     (tie.spec
     Inv-loop
     μ-loop
+    (λ c κs. search needs)
     (λ c. search needs)
     (λ c. search needs)
     (λ c. search needs)
@@ -27,5 +28,5 @@ transfer-spec =
     (λ c. omega arith)
     (λ c. omega arith)
     (λ c. search needs)
-    (λ c. search needs)
+    (λ c κs. search needs)
     (λ c. search needs))
