@@ -1,2 +1,3 @@
 -- The laws that belong to no one function.
 pub mod LinesPut
+pub mod Answering

@@ -1,13 +1,17 @@
 -- Document 01, "The program reads 20-byte records": one line each, in order, numbered on.
 use mathlib.Core.Path.{_≡_}
-use mathlib.Core.List.{List, [], _++_}
+use mathlib.Core.Bool.{true, false}
+use mathlib.Core.List.{List, [], _∷_, _++_}
 use Prim.Native.Nat.{ℕ, zero, suc, _+_, _*_, _/_}
 use lib.ListN.{take, drop}
 use Rattle.io.specs.Counts.{Counts}
 use Rattle.cost_bytes.specs.SideBytes.{lineOf}
 use Rattle.io_rest.specs.Rest.{KeepsRest}
+use Rattle.io_streams.specs.declared.Read.{Read}
+use Rattle.io_streams.specs.declared.Read.the-variants as read
 use Rattle.text_answers.specs.Wording.{lineText}
 use Rattle.prog_bits.specs.declared.Standing.{Standing}
+use Rattle.prog_bits.specs.declared.Turned.{Turned}
 
 -- record k of some bytes, of 20 bytes each
 abbrev pub record20 : List ℕ → ℕ → List ℕ
@@ -23,7 +27,34 @@ pub record PutsLines (frame : ℕ) (bytes : List ℕ) (records count : ℕ) (lef
   pub counts : Counts count left
   pub lines : take count left ≡ linesText frame bytes records
 
--- the whole records of the first bytes read are answered, and what is left of those bytes is held
-pub record AnswersPiece (frame read : ℕ) (found left : List ℕ) (result : Standing) : Type 0 where
-  pub next-frame : result .frame ≡ frame + read / 20
-  pub keeps : KeepsRest 20 read found left (result .held)
+-- what is left over where input ends is a record cut short, and nothing is said of none
+abbrev pub restText : ℕ → List ℕ → List ℕ
+restText frame [] = []
+restText frame (byte ∷ rest) = lineText frame (lineOf (byte ∷ rest))
+
+-- the whole records of the first bytes read are answered, what is left of those bytes is held, and there is more to read
+pub record AnswersPiece (frame read : ℕ) (found left output : List ℕ) (result : Turned) : Type 0 where
+  pub lines : PutsLines frame found (read / 20) (result .count) output
+  pub next-frame : result .standing .frame ≡ frame + read / 20
+  pub keeps : KeepsRest 20 read found left (result .standing .held)
+  pub on : result .standing .«goes_on» ≡ true
+
+-- the bytes left over are answered, and nothing goes on
+pub record AnswersRest (frame : ℕ) (bytes output : List ℕ) (result : Turned) : Type 0 where
+  pub counts : Counts (result .count) output
+  pub line : take (result .count) output ≡ restText frame bytes
+  pub same-frame : result .standing .frame ≡ frame
+  pub none : result .standing .held ≡ 0
+  pub ends : result .standing .«goes_on» ≡ false
+
+-- by what a read gives: more bytes behind those held; or the end, or a failure, at which those held are left over
+abbrev pub AnswersRead : Read → Standing → List ℕ → List ℕ → List ℕ → Turned → Type 0
+AnswersRead (read.Bytes count) standing found left output result = AnswersPiece (standing .frame) (standing .held + count) found left output result
+AnswersRead read.End standing found left output result = AnswersRest (standing .frame) (take (standing .held) found) output result
+AnswersRead read.Failed standing found left output result = AnswersRest (standing .frame) (take (standing .held) found) output result
+
+-- once the lines are written, or could not be: where it goes on there is more to read
+pub record Settles (turned : Turned) (result : Standing) : Type 0 where
+  pub frame : result .frame ≡ turned .standing .frame
+  pub held : result .held ≡ turned .standing .held
+  pub more : result .«goes_on» ≡ true → turned .standing .«goes_on» ≡ true

@@ -1,16 +1,24 @@
 // Reads 20-byte records of side data from standard input until it ends, and writes a line for each:
 // the bits that it costs, or why it is refused. The lines of the records read are proved to be those
-// of document 01; that they are read and written is tested. What was read before input ends or fails
-// is answered.
+// of document 01, by what a read gave (`answered`); that they are read and written is tested. What was read
+// before input ends or fails is answered.
+//
+// The inner functions have a `requires`: the sizes of the two pieces, a frame's number that leaves room for those
+// of one more piece, less than a record held. So `main` begins, and so each turn is proved to leave it, for as
+// many turns as it makes. That a read stays within its piece is a promise of io_streams.
 use io_rest::keep_rest;
 use io_streams::Read;
+use io_streams::complain_if_unfinished;
+use io_streams::most_turns;
 use io_streams::read_after;
 use io_streams::write;
 use text_answers::put_line;
 ghost use mathlib.Core.Path.{_≡_};
 ghost use Prim.Native.Nat.{_+_, _*_, _≤_, _<_};
-ghost use lib.ListN.{length};
-ghost use Rattle.prog_bits.specs.Output.{PutsLines, AnswersPiece};
+ghost use lib.ListN.{length, take};
+ghost use Rattle.io.specs.Counts.{Counts};
+ghost use Rattle.io_streams.specs.Reads.{Within};
+ghost use Rattle.prog_bits.specs.Output.{PutsLines, AnswersPiece, AnswersRest, AnswersRead, Settles};
 
 // Where the program stands between two reads: the next frame's number, how many bytes of a record not
 // yet whole are held at the start of the piece, and whether there is more to do.
@@ -18,6 +26,12 @@ struct Standing {
     frame: u64,
     held: usize,
     goes_on: bool,
+}
+
+// What comes of a read: where the program stands then, and how many bytes of lines there are to write.
+struct Turned {
+    standing: Standing,
+    count: usize,
 }
 
 // The lines of the first `count` records of some bytes, from a frame's number on. No line is longer
@@ -39,41 +53,76 @@ fn put_lines(frame: u64, bytes: &[u8], count: usize, out: &mut [u8]) -> usize
 }
 
 // Input has ended, or failed: what is held is a record cut short.
-fn end(input: &[u8], frame: u64, held: usize, output: &mut [u8]) -> Standing
+fn rest_answered(input: &[u8], frame: u64, held: usize, output: &mut [u8]) -> Turned
     requires { ⌜ held ≤ length (now input) ⌝ }
-    ensures { λ r. ⌜ (r .frame ≡ frame) × (r .held ≡ 0) ⌝ }
+    requires { ⌜ 65536 ≡ length (now output) ⌝ }
+    ensures { λ r. ⌜ AnswersRest frame (take held (now (input .entry))) (now (output .exit)) r ⌝ }
 {
+    let mut count = 0usize;
     if held > 0 {
-        let count = put_line(frame, &input[..held], output, 0);
-        write(&output[..count]);
+        count = put_line(frame, &input[..held], output, 0);
     }
-    Standing {
-        frame,
-        held: 0,
-        goes_on: false,
+    Turned {
+        standing: Standing {
+            frame,
+            held: 0,
+            goes_on: false,
+        },
+        count,
     }
 }
 
 // Answers the whole records of the first `read` bytes, and keeps what is left of them.
-fn answer(input: &mut [u8], frame: u64, read: usize, output: &mut [u8]) -> Standing
+fn records_answered(input: &mut [u8], frame: u64, read: usize, output: &mut [u8]) -> Turned
     requires { ⌜ read ≤ 16000 ⌝ }
     requires { ⌜ 16000 ≤ length (now input) ⌝ }
     requires { ⌜ 65536 ≡ length (now output) ⌝ }
     requires { ⌜ frame < 9223372036854775808 ⌝ }
-    ensures { λ r. ⌜ AnswersPiece frame read (now (input .entry)) (now (input .exit)) r ⌝ }
+    ensures { λ r. ⌜ AnswersPiece frame read (now (input .entry)) (now (input .exit)) (now (output .exit)) r ⌝ }
 {
     let records = read / 20;
     let count = put_lines(frame, input, records, output);
-    let goes_on = write(&output[..count]);
     let held = keep_rest(input, 20, read);
-    Standing {
-        frame: frame + records as u64,
-        held,
-        goes_on,
+    Turned {
+        standing: Standing {
+            frame: frame + records as u64,
+            held,
+            goes_on: true,
+        },
+        count,
     }
 }
 
-// One read, and what there is to answer after it.
+// What comes of a read, by what it gave.
+fn answered(got: Read, input: &mut [u8], standing: Standing, output: &mut [u8]) -> Turned
+    requires { ⌜ (16000 ≡ length (now input)) × (65536 ≡ length (now output)) × (standing .held < 20) × (standing .frame < 9223372036854775808) × Within (standing .held) (length (now input)) got ⌝ }
+    ensures { λ r. ⌜ AnswersRead got standing (now (input .entry)) (now (input .exit)) (now (output .exit)) r ⌝ }
+{
+    let held = standing.held;
+    let frame = standing.frame;
+    match got {
+        Read::Bytes(count) => records_answered(input, frame, held + count, output),
+        Read::End => rest_answered(input, frame, held, output),
+        Read::Failed => rest_answered(input, frame, held, output),
+    }
+}
+
+// Writes the lines, and answers where the program stands then: it goes on only where there is more to read.
+fn written(turned: Turned, output: &[u8]) -> Standing
+    requires { ⌜ Counts (turned .count) (now output) ⌝ }
+    ensures { λ r. ⌜ Settles turned r ⌝ }
+{
+    let stands = turned.standing;
+    let count = turned.count;
+    let is_written = write(&output[..count]);
+    Standing {
+        frame: stands.frame,
+        held: stands.held,
+        goes_on: stands.goes_on && is_written,
+    }
+}
+
+// One read, what comes of it, and where the program stands once that is written.
 fn turn(input: &mut [u8], standing: Standing, output: &mut [u8]) -> Standing
     requires { ⌜ 16000 ≡ length (now input) ⌝ }
     requires { ⌜ 65536 ≡ length (now output) ⌝ }
@@ -83,15 +132,11 @@ fn turn(input: &mut [u8], standing: Standing, output: &mut [u8]) -> Standing
 {
     let held = standing.held;
     let got = read_after(input, held);
-    match got {
-        Read::Bytes(count) => answer(input, standing.frame, held + count, output),
-        Read::End => end(input, standing.frame, held, output),
-        Read::Failed => end(input, standing.frame, held, output),
-    }
+    let turned = answered(got, input, standing, output);
+    written(turned, output)
 }
 
-// A piece of input has 800 records, whose lines fit a piece of output whatever they say. The turns are
-// counted down from a number that no run uses up, so that the loop ends.
+// A piece of input has 800 records, whose lines fit a piece of output whatever they say.
 fn main() {
     let mut input = [0u8; 16000];
     let mut output = [0u8; 65536];
@@ -100,9 +145,10 @@ fn main() {
         held: 0,
         goes_on: true,
     };
-    let mut turns = 0x20_0000_0000_0000u64;
+    let mut turns = most_turns();
     while turns > 0 && standing.goes_on {
         standing = turn(&mut input, standing, &mut output);
         turns -= 1;
     }
+    complain_if_unfinished(standing.goes_on);
 }

@@ -4,12 +4,13 @@ use Prim.Native.Nat.{_+_, _*_, _≤_, _<_}
 use native.Mathlib.Omega.{arith}
 use borrow.Author.Needs.{needs}
 use lib.ListN.{length}
+use Rattle.io_streams.specs.Reads.{mostTurns}
 use Rattle.prog_bits.proofs.main.Statement.{statement}
 use Rattle.prog_bits.proofs.main.Tie as tie
 
 abbrev Inv-loop : tie.InvT-loop
 Inv-loop input₀ output₀ standing₀ turns₀ input output standing turns =
-    (length input ≡ 16000) × (length output ≡ 65536) × (standing .held < 20) × (standing .frame + 800 * turns ≤ 800 * 9007199254740992)
+    (length input ≡ 16000) × (length output ≡ 65536) × (standing .held < 20) × (standing .frame + 800 * turns ≤ 800 * mostTurns)
 
 abbrev μ-loop : tie.MeasureT-loop
 μ-loop input₀ output₀ standing₀ turns₀ input output standing turns = turns
@@ -20,6 +21,7 @@ main-spec =
     (tie.spec
     Inv-loop
     μ-loop
+    (λ c κs. search needs)
     (λ c. search needs)
     (λ c. search needs)
     (λ c. search needs)
@@ -27,5 +29,5 @@ main-spec =
     (λ c. omega arith)
     (λ c. omega arith)
     (λ c. search needs)
-    (λ c. search needs)
+    (λ c κs. search needs)
     (λ c. search needs))
