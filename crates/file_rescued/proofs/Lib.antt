@@ -8,3 +8,4 @@ pub mod Untouched
 pub mod Accounted
 pub mod BytesStay
 pub mod AnyNumber
+pub mod NoNine
