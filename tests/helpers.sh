@@ -4,7 +4,8 @@
 #
 # $root is the repository, $tns the launcher and $programs the folder of the programs; the variable
 # TNS_PROGRAMS can name that of others. The file `nothing` is empty. Assumes GNU's tools on Linux and, for
-# `builds`, a C compiler for this machine (HOSTCC, or else CC, names another than cc).
+# `builds`, a C compiler for this machine (HOSTCC, or else CC, names another than cc). For `interposes` it
+# assumes one for the programs' machine (CC, or else cc), and programs whose loader heeds LD_PRELOAD.
 set -eu
 LC_ALL=C
 export LC_ALL
@@ -35,6 +36,56 @@ needs() { # PROGRAM..: they must have been built
 
 builds() { # NAME..: of tests/NAME.c
     for name; do ${HOSTCC:-${CC:-cc}} -std=c99 -O2 -Wall -Wextra -Werror -o "$name" "$root/tests/$name.c"; done
+}
+
+# The library of tests/reads.c, and a launcher whose programs are these with the library before them:
+# interposed/tns, which is to be called in this folder. The library is the program's alone, not the launcher's.
+interposes() { # PROGRAM..
+    ${CC:-cc} -std=c99 -O2 -Wall -Wextra -Werror -shared -fPIC -o reads.so "$root/tests/reads.c"
+    mkdir -p interposed/target/bin
+    cp "$tns" interposed/tns
+    ln -s "$programs" interposed/programs
+    for each; do
+        cat >"interposed/target/bin/$each" <<'END'
+#!/bin/sh
+rm -f reads.told
+LD_PRELOAD=./reads.so
+export LD_PRELOAD
+exec "./interposed/programs/${0##*/}" "$@"
+END
+        chmod +x "interposed/target/bin/$each"
+    done
+}
+
+# That launcher: reads come as $1 says, and the one of the number $2 fails. The first is 1, and 0 is none.
+interposed() { # READS FAILING WORD..
+    TNS_READS=$1 TNS_READS_FAIL=$2
+    export TNS_READS TNS_READS_FAIL
+    shift 2
+    ./interposed/tns "$@"
+}
+
+# What the library told last: $reads is how many there were, $cuts how many it made short, $gave how many bytes
+# they gave, and $end the number of the first that gave the end. Where it was not there they are 0.
+asks_reads() {
+    reads=0 cuts=0 gave=0 end=0
+    [ ! -f reads.told ] || read -r reads cuts gave end <reads.told
+    rm -f reads.told
+}
+
+# The reads of the last run came as $2 says, and gave $3 bytes to their end, $4 times over. By single bytes there
+# is one for each, and one for the end; of the others some were made short, and some were not.
+expect_reads() { # NAME READS BYTES TIMES
+    asks_reads
+    why=
+    [ "$gave" -eq $(($3 * $4)) ] || why="$gave bytes, not $(($3 * $4))"
+    case $2 in
+    single) wanted=$((($3 + 1) * $4)) ;;
+    *) wanted=$reads ;;
+    esac
+    [ "$reads" -eq $wanted ] && [ "$cuts" -gt 0 ] && [ "$2 $cuts" != "short $reads" ] || why="$why
+$reads reads, $cuts of them made short"
+    count "$1, how reads came"
 }
 
 # Runs a command with its output and its errors in the files `out` and `err`, and its status in $status.
