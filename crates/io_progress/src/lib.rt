@@ -1,11 +1,13 @@
 // How far a rescue is, on standard error where that is a terminal: the part of both readings that is done,
 // each second from the second one on. And how a file is named where something is said of it meanwhile.
-// What stands on a terminal, and what the clock says, cannot be promised.
+// What is shown is promised by what the clock says; what that is, and what stands on a terminal, cannot be.
 use libc::STDERR_FILENO;
 use text_put::put;
 use text_put::put_numbered;
+ghost use mathlib.Core.Path.{_≡_};
 ghost use Rattle.text_put.specs.Text.{Puts};
 ghost use Rattle.io_progress.specs.Named.{nameText};
+ghost use Rattle.io_progress.specs.Percents.{percentOf, inSecond};
 
 // What is known of a run: whether its progress is shown, how large its file is, the second in which it
 // began and the last that was seen, and whether something stands on the terminal.
@@ -53,6 +55,27 @@ fn show(percent: u64) {
     io::write_all(STDERR_FILENO, &text[..count]);
 }
 
+// The part of both readings that is done, in percent: a file of so many bytes has a block in each 512, and each is
+// read twice.
+fn percent_of(size: u64, done: u64) -> u64
+    ensures { λ r. ⌜ r ≡ percentOf size done ⌝ }
+{
+    done / (size / 25600 + 1)
+}
+
+// What is known of a run in another second than the last that was seen: something is shown from the second one on.
+fn in_second(progress: Progress, now: u64) -> Progress
+    ensures { λ r. ⌜ r ≡ inSecond progress now ⌝ }
+{
+    Progress {
+        is_terminal: progress.is_terminal,
+        size: progress.size,
+        began: progress.began,
+        second: now,
+        is_shown: now > progress.began && now - progress.began > 1,
+    }
+}
+
 // So many blocks are done, of both readings of the file.
 pub fn shown(progress: Progress, done: u64) -> Progress {
     if !progress.is_terminal {
@@ -62,17 +85,11 @@ pub fn shown(progress: Progress, done: u64) -> Progress {
     if now == progress.second {
         return progress;
     }
-    let is_long = now > progress.began && now - progress.began > 1;
-    if is_long {
-        show(done / (progress.size / 25600 + 1));
+    let next = in_second(progress, now);
+    if next.is_shown {
+        show(percent_of(next.size, done));
     }
-    Progress {
-        is_terminal: true,
-        size: progress.size,
-        began: progress.began,
-        second: now,
-        is_shown: is_long,
-    }
+    next
 }
 
 // What stands on the terminal is gone.
