@@ -1,6 +1,6 @@
-// Files by their names: whether a name is taken, and how the file that is made gets its own. What a look at a
-// name tells is promised by what the system answered; nothing else can be, since no contract says what the
-// system does with a name.
+// Files by their names: whether a name is taken, what is said of one, and how the file that is made gets its own.
+// What a look at a name tells is promised by what the system answered, and so are the texts; what the system does
+// with a name cannot be.
 use io_paths::c_path;
 use io_paths::folder_of;
 use io_paths::part_name;
@@ -8,7 +8,9 @@ use io_streams::complain;
 use io_streams::failed;
 use text_put::put;
 ghost use mathlib.Core.Path.{_≡_};
+ghost use Rattle.text_put.specs.Text.{Puts};
 ghost use Rattle.io_names.specs.Looks.{lookOf};
+ghost use Rattle.io_names.specs.Said.{saidText};
 
 // What a look at a name tells: that nothing has it, that something has, or neither.
 enum Look {
@@ -17,22 +19,29 @@ enum Look {
     Unknown,
 }
 
+// Room for what is said of the longest path that there is.
 const LONGEST: usize = 4200;
+
+// Puts what is said of a file, by its name.
+fn put_said(name: &[u8], what: &[u8], text: &mut [u8]) -> usize
+    ensures { λ r. ⌜ Puts (saidText (now (name .entry)) (now (what .entry))) (now (text .entry)) 0 r (now (text .exit)) ⌝ }
+{
+    let begun = put(b"tns: ", text, 0);
+    let named = put(name, text, begun);
+    put(what, text, named)
+}
 
 // Says what failed of a file, by its name, and the system's reason.
 pub fn failed_at(name: &[u8]) {
     let mut text = [0u8; LONGEST];
-    let begun = put(b"tns: ", &mut text, 0);
-    let count = put(name, &mut text, begun);
+    let count = put_said(name, b"", &mut text);
     failed(&text[..count]);
 }
 
 // Says something else of a file, by its name.
 pub fn complain_of(name: &[u8], what: &[u8]) {
     let mut text = [0u8; LONGEST];
-    let begun = put(b"tns: ", &mut text, 0);
-    let said = put(name, &mut text, begun);
-    let count = put(what, &mut text, said);
+    let count = put_said(name, what, &mut text);
     complain(&text[..count]);
 }
 
