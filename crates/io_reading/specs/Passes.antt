@@ -10,5 +10,6 @@ use Rattle.io_reading.specs.declared.Standing.{Standing}
 pub record Passes (standing : Standing) (read : ℕ) (found left : List ℕ) (result : Standing) : Type 0 where
   pub place : result .place ≡ standing .place + read / 512
   pub keeps : KeepsRest 512 read found left (result .held)
+  pub reads : result .reads ≡ standing .reads
   pub on : result .«goes_on» ≡ true
   pub well : result .«is_well» ≡ true

@@ -6,19 +6,22 @@ use io_progress::Progress;
 use io_progress::erase;
 use io_progress::put_name;
 use io_streams::Read;
+use io_streams::is_spent;
 use io_streams::read_from;
 ghost use mathlib.Core.Path.{_≡_};
-ghost use Rattle.io_streams.specs.Reads.{ReadAfter};
-ghost use Rattle.io_reading.specs.Stands.{atStart, endedAs, afterTurns, afterWrite, sameTotals};
+ghost use Prim.Native.Nat.{_<_};
+ghost use Rattle.io_streams.specs.Reads.{mostReads, ReadAfter};
+ghost use Rattle.io_reading.specs.Stands.{atStart, endedAs, afterRead, afterWrite, sameTotals};
 
 // Where a reading stands between two pieces: the place of the next block, how many are kept before it, how
-// many bytes of a block not yet whole are held at the start of the piece, whether another read is to be made,
-// and whether nothing has failed. One that is not well never goes on, and one that has ended well has come to
-// the file's end.
+// many bytes of a block not yet whole are held at the start of the piece, how many reads were made, whether
+// another is to be made, and whether nothing has failed. What `answered` of either reading makes of a read is
+// well and goes on, or is well and has come to the file's end, or is not well and does not go on.
 pub struct Standing {
     pub place: u64,
     pub kept: u64,
     pub held: usize,
+    pub reads: u64,
     pub goes_on: bool,
     pub is_well: bool,
 }
@@ -31,6 +34,7 @@ pub fn begun() -> Standing
         place: 0,
         kept: 0,
         held: 0,
+        reads: 0,
         goes_on: true,
         is_well: true,
     }
@@ -44,6 +48,7 @@ pub fn ended(standing: Standing, is_well: bool) -> Standing
         place: standing.place,
         kept: standing.kept,
         held: standing.held,
+        reads: standing.reads,
         goes_on: false,
         is_well,
     }
@@ -59,17 +64,28 @@ pub fn after_write(standing: Standing, is_written: bool) -> Standing
     ended(standing, false)
 }
 
-// A reading that has made its last turn. What is shown of it is erased, and where it still goes on, that is said
-// as a failure: no run makes so many turns, but none may end as if it were whole.
-pub fn after_turns(standing: Standing, name: &[u8], shows: Progress) -> Standing
-    ensures { λ r. ⌜ r ≡ afterTurns standing ⌝ }
+// One read more is made. Where a reading goes on and none is left to make, it ends there, and that is said as a
+// failure: no run makes so many, but none may end as if it were whole. It requires that there was one left to make,
+// as both readings see to before each.
+pub fn after_read(standing: Standing, name: &[u8], shows: Progress) -> Standing
+    requires { ⌜ standing .reads < mostReads ⌝ }
+    ensures { λ r. ⌜ r ≡ afterRead standing ⌝ }
 {
-    erase(shows);
-    if standing.goes_on {
+    let reads = standing.reads + 1;
+    let next = Standing {
+        place: standing.place,
+        kept: standing.kept,
+        held: standing.held,
+        reads,
+        goes_on: standing.goes_on,
+        is_well: standing.is_well,
+    };
+    if is_spent(standing.goes_on, reads) {
+        erase(shows);
         complain_of(name, b": too many reads\n");
-        return ended(standing, false);
+        return ended(next, false);
     }
-    standing
+    next
 }
 
 // Whether the second reading found as many blocks, kept ones and stray bytes as the first. It may not

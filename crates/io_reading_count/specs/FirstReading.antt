@@ -1,10 +1,11 @@
--- What the first reading makes of a piece of the damaged file, and of what a read gives.
+-- What the first reading makes of a piece of the damaged file, of what a read gives, and in a turn.
 use mathlib.Core.Path.{_≡_}
 use mathlib.Core.Bool.{true, false}
 use mathlib.Core.List.{List}
-use Prim.Native.Nat.{ℕ, _+_}
+use Prim.Native.Nat.{ℕ, _+_, _≤_, _<_}
 use lib.ListN.{take}
 use Rattle.io_rest.specs.Rest.{wholeBytes}
+use Rattle.io_streams.specs.Reads.{mostReads}
 use Rattle.io_streams.specs.declared.Read.{Read}
 use Rattle.io_streams.specs.declared.Read.the-variants.{Bytes, End, Failed}
 use Rattle.file_kept.specs.KeptIn.{keptIn}
@@ -23,3 +24,11 @@ abbrev pub CountsRead : Read → Standing → List ℕ → List ℕ → Standing
 CountsRead (Bytes count) standing found left result = CountsPiece standing (standing .held + count) found left result
 CountsRead End standing found left result = result ≡ endedAs true standing
 CountsRead Failed standing found left result = result ≡ endedAs false standing
+
+-- a turn makes one read more, adds the blocks of a piece at most, holds less than one, and where it goes on a read is left to make
+pub record Turns (standing result : Standing) : Type 0 where
+  pub place : result .place ≤ standing .place + 120
+  pub kept : result .kept ≤ standing .kept + 120
+  pub held : result .held < 512
+  pub reads : result .reads ≡ standing .reads + 1
+  pub left : result .«goes_on» ≡ true → result .reads < mostReads

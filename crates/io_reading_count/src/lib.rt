@@ -2,26 +2,26 @@
 // nothing is written where there are too many. What comes of a read is promised by what the read gave.
 //
 // The inner functions have a `requires`: the size of the piece, counts that leave room for those of one more,
-// less than a block held. So `count_pass` begins, and so each turn is proved to leave it, for as many turns as
-// it makes. That a read stays within its piece is a promise of io_streams.
+// less than a block held, a read left to make. So `count_pass` begins, and so each turn is proved to leave it where
+// it goes on. That a read stays within its piece is a promise of io_streams.
 use file_kept::count_kept;
 use io_progress::Progress;
+use io_progress::erase;
 use io_progress::shown;
 use io_reading::Standing;
-use io_reading::after_turns;
+use io_reading::after_read;
 use io_reading::begun;
 use io_reading::ended;
 use io_reading::read_named;
 use io_rest::keep_rest;
 use io_rest::whole_bytes;
 use io_streams::Read;
-use io_streams::most_turns;
 ghost use mathlib.Core.Path.{_≡_};
 ghost use mathlib.Core.Bool.{false};
-ghost use Prim.Native.Nat.{_+_, _≤_, _<_};
+ghost use Prim.Native.Nat.{_≤_, _<_};
 ghost use lib.ListN.{length};
-ghost use Rattle.io_streams.specs.Reads.{Within};
-ghost use Rattle.io_reading_count.specs.FirstReading.{CountsPiece, CountsRead};
+ghost use Rattle.io_streams.specs.Reads.{Within, mostReads};
+ghost use Rattle.io_reading_count.specs.FirstReading.{CountsPiece, CountsRead, Turns};
 
 // Counts the blocks to keep among the whole ones of the first `read` bytes. What is left of the bytes is
 // held.
@@ -37,6 +37,7 @@ fn counted(input: &mut [u8], standing: Standing, read: usize) -> Standing
         place: standing.place + blocks as u64,
         kept: standing.kept + kept as u64,
         held,
+        reads: standing.reads,
         goes_on: true,
         is_well: true,
     }
@@ -63,12 +64,13 @@ fn count_turn(
     standing: Standing,
     shows: Progress,
 ) -> Standing
-    requires { ⌜ (length (now input) ≡ 61440) × (standing .place < 4611686018427387904) × (standing .kept < 4611686018427387904) × (standing .held < 512) ⌝ }
-    ensures { λ r. ⌜ (r .place ≤ standing .place + 120) × (r .kept ≤ standing .kept + 120) × (r .held < 512) ⌝ }
+    requires { ⌜ (length (now input) ≡ 61440) × (standing .place < 4611686018427387904) × (standing .kept < 4611686018427387904) × (standing .held < 512) × (standing .reads < mostReads) ⌝ }
+    ensures { λ r. ⌜ Turns standing r ⌝ }
 {
     let held = standing.held;
     let got = read_named(descriptor, name, shows, input, held);
-    answered(got, input, standing)
+    let stands = answered(got, input, standing);
+    after_read(stands, name, shows)
 }
 
 // Reads the file to its end, and answers how many blocks it has, how many are kept and how many bytes are
@@ -79,11 +81,10 @@ pub fn count_pass(descriptor: i32, name: &[u8], progress: Progress) -> Standing
     let mut input = [0u8; 61440];
     let mut standing = begun();
     let mut shows = progress;
-    let mut turns = most_turns();
-    while turns > 0 && standing.goes_on {
-        turns -= 1;
+    while standing.goes_on {
         standing = count_turn(descriptor, name, &mut input, standing, shows);
         shows = shown(shows, standing.place);
     }
-    after_turns(standing, name, shows)
+    erase(shows);
+    standing
 }

@@ -1,24 +1,29 @@
 -- Whatever a read gives: what there is to write and to say lies within its pieces, a turn adds 120 blocks at most and holds less than one, and there is a
 -- number for every block that is kept, whether or not it could be written.
-use mathlib.Core.Path.{_≡_, refl, ap, _∙_}
+use mathlib.Core.Path.{_≡_, refl}
 use mathlib.Core.Bool.{Bool, true, false}
 use mathlib.Core.List.{List}
 use Prim.Native.Nat.{ℕ, _+_, _≤_, _<_}
 use native.Mathlib.Omega.{arith}
-use lib.ListN.{length, take, length-take}
+use lib.ListN.{length}
 use Rattle.io.specs.Counts.{Counts}
 use Rattle.io.proofs.Counting.{counts}
 use Rattle.io_rest.proofs.Rests.{rest-below}
 use Rattle.io_streams.specs.Reads.{Within}
 use Rattle.io_streams.specs.declared.Read.{Read}
 use Rattle.io_streams.specs.declared.Read.the-variants as read
-use Rattle.io_reading.specs.Stands.{afterWrite}
+use Rattle.io_reading.specs.Stands.{afterWrite, afterRead}
 use Rattle.io_reading.specs.declared.Standing.{Standing}
-use Rattle.io_reading_mend.specs.SecondReading.{wholeBlocks, hasNumbers, Breaks, TakesPiece, MendsRead}
+use Rattle.io_reading.proofs.Ends.{stays}
+use Rattle.io_reading_mend.specs.SecondReading.{wholeBlocks, hasNumbers, Breaks, TakesPiece, MendsRead, Turns}
 use Rattle.io_reading_mend.specs.declared.Turned.{Turned}
 
-abbrev InRange : Standing → Standing → Type 0
-InRange standing result = (result .place ≤ standing .place + 120) × (result .kept ≤ 65536) × (result .held < 512)
+-- what comes of a read, before it is counted
+pub record InRange (standing result : Standing) : Type 0 where
+  pub place : result .place ≤ standing .place + 120
+  pub kept : result .kept ≤ 65536
+  pub held : result .held < 512
+  pub reads : result .reads ≡ standing .reads
 
 abbrev Counted : List ℕ → List ℕ → Turned → Type 0
 Counted output report turned = Counts (turned .taken .bytes) output × Counts (turned .taken .lines) report
@@ -40,11 +45,16 @@ module _ (standing : Standing) (found left output report : List ℕ) (result : T
 
   module _ (fits : standing .kept ≤ 65536) (less : standing .held < 512) where
     broken-in-range : (changed : Bool) → Breaks standing changed result → InRange standing (result .standing)
-    broken-in-range changed b = rw (b .ends) (omega arith, fits, less)
+    broken-in-range changed b = rw (b .ends) (record { place = omega arith; kept = fits; held = less; reads = refl })
 
     piece-in-range : (numbers : Bool) (read : ℕ) → read ≤ 61440 → TakesPiece numbers standing read found left output report result → InRange standing (result .standing)
     piece-in-range true read few a =
-        (omega (arith, a .passes .place), omega (arith, a .kept, a .rescues .in-range), omega (arith, a .passes .keeps .so-many, rest-below 512 read (omega arith)))
+        record {
+          place = omega (arith, a .passes .place);
+          kept = omega (arith, a .kept, a .rescues .in-range);
+          held = omega (arith, a .passes .keeps .so-many, rest-below 512 read (omega arith));
+          reads = a .passes .reads;
+        }
     piece-in-range false read few a = broken-in-range true a
 
     pub still-in-range : (got : Read) → length found ≤ 61440 → Within (standing .held) (length found) got → MendsRead got standing found left output report result
@@ -52,9 +62,21 @@ module _ (standing : Standing) (found left output report : List ℕ) (result : T
     still-in-range (read.Bytes count) short w a =
         let read = standing .held + count in
         piece-in-range (hasNumbers (standing .kept) (wholeBlocks read found)) read (omega (arith, w .1)) a
-    still-in-range read.End short w a = rw (a .ends) (omega arith, fits, less)
+    still-in-range read.End short w a = rw (a .ends) (record { place = omega arith; kept = fits; held = less; reads = refl })
     still-in-range read.Failed short w a = broken-in-range false a
 
 pub written-in-range : (written : Bool) (standing stands result : Standing) → result ≡ afterWrite written stands → InRange standing stands → InRange standing result
 written-in-range true standing stands result e h = rw e h
-written-in-range false standing stands result e h = rw e h
+written-in-range false standing stands result e h = rw e (record { place = h .place; kept = h .kept; held = h .held; reads = h .reads })
+
+-- and then
+pub turns : (standing stands result : Standing) → InRange standing stands → result ≡ afterRead stands → Turns standing result
+turns standing stands result r e =
+    let s = stays stands result e in
+    record {
+      place = omega (arith, s .place, r .place);
+      kept = omega (arith, s .kept, r .kept);
+      held = omega (arith, s .held, r .held);
+      reads = omega (arith, s .reads, r .reads);
+      left = s .left;
+    }

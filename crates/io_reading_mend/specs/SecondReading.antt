@@ -1,4 +1,4 @@
--- What the second reading makes of a piece of the damaged file, of what is left over at its end, and of what a read gives.
+-- What the second reading makes of a piece of the damaged file, of what is left over at its end, of what a read gives, and in a turn.
 use mathlib.Core.Path.{_≡_}
 use mathlib.Core.Bool.{Bool, true, false}
 use mathlib.Core.List.{List}
@@ -7,6 +7,7 @@ use lib.Dec.{leb}
 use lib.ListN.{take}
 use Rattle.file_kept.specs.KeptIn.{keptIn}
 use Rattle.io_rest.specs.Rest.{wholeBytes}
+use Rattle.io_streams.specs.Reads.{mostReads}
 use Rattle.io_streams.specs.declared.Read.{Read}
 use Rattle.io_streams.specs.declared.Read.the-variants.{Bytes, End, Failed}
 use Rattle.io_rescue.specs.RescueSteps.{RescuesPiece}
@@ -37,11 +38,11 @@ pub record TellsRest (standing : Standing) (found output report : List ℕ) (res
   pub same : result .«is_changed» ≡ false
 
 -- the reading ends, not well, with nothing to write or to say of the file; and whether that is because the file is another than it was
-pub record Breaks (standing : Standing) (changed : Bool) (result : Turned) : Type 0 where
+pub record Breaks (standing : Standing) (isChanged : Bool) (result : Turned) : Type 0 where
   pub ends : result .standing ≡ endedAs false standing
   pub no-bytes : result .taken .bytes ≡ 0
   pub no-lines : result .taken .lines ≡ 0
-  pub same : result .«is_changed» ≡ changed
+  pub changed : result .«is_changed» ≡ isChanged
 
 -- a piece, by whether there are numbers for its blocks: the first reading has seen to it, unless the file is another by now
 abbrev pub TakesPiece : Bool → Standing → ℕ → List ℕ → List ℕ → List ℕ → List ℕ → Turned → Type 0
@@ -55,3 +56,12 @@ MendsRead (Bytes count) standing found left output report result =
     TakesPiece (hasNumbers (standing .kept) (wholeBlocks (standing .held + count) found)) standing (standing .held + count) found left output report result
 MendsRead End standing found left output report result = TellsRest standing found output report result
 MendsRead Failed standing found left output report result = Breaks standing false result
+
+-- a turn makes one read more, adds the blocks of a piece at most, has a number for every block that is kept, holds less than a block, and where it goes
+-- on a read is left to make
+pub record Turns (standing result : Standing) : Type 0 where
+  pub place : result .place ≤ standing .place + 120
+  pub kept : result .kept ≤ 65536
+  pub held : result .held < 512
+  pub reads : result .reads ≡ standing .reads + 1
+  pub left : result .«goes_on» ≡ true → result .reads < mostReads

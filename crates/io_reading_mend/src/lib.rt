@@ -3,9 +3,9 @@
 // by what the read gave (`answered`); that it is written and said is not.
 //
 // The inner functions have a `requires`: the sizes of the three pieces, a place that leaves room for those of
-// one more, a number that there is or the one after the last, less than a block held, and for `is_put` no more
-// put than its pieces have. So `mend_pass` begins, and so each turn is proved to leave it, for as many turns as
-// it makes. That a read stays within its piece is a promise of io_streams, and what was put is counted by
+// one more, a number that there is or the one after the last, less than a block held, a read left to make, and for
+// `is_put` no more put than its pieces have. So `mend_pass` begins, and so each turn is proved to leave it where it
+// goes on. That a read stays within its piece is a promise of io_streams, and what was put is counted by
 // io_rescue's.
 use file_kept::count_kept;
 use io_names::complain_of_change;
@@ -14,7 +14,7 @@ use io_progress::erase;
 use io_progress::put_name;
 use io_progress::shown;
 use io_reading::Standing;
-use io_reading::after_turns;
+use io_reading::after_read;
 use io_reading::after_write;
 use io_reading::begun;
 use io_reading::ended;
@@ -24,16 +24,15 @@ use io_rescue::rescue_piece;
 use io_rest::keep_rest;
 use io_rest::whole_bytes;
 use io_streams::Read;
-use io_streams::most_turns;
 use io_streams::write;
 use io_streams::write_to;
 ghost use mathlib.Core.Path.{_≡_};
-ghost use mathlib.Core.Bool.{true, false};
-ghost use Prim.Native.Nat.{_+_, _≤_, _<_};
-ghost use lib.ListN.{length, take};
+ghost use mathlib.Core.Bool.{false};
+ghost use Prim.Native.Nat.{_≤_, _<_};
+ghost use lib.ListN.{length};
 ghost use Rattle.io.specs.Counts.{Counts};
-ghost use Rattle.io_streams.specs.Reads.{Within};
-ghost use Rattle.io_reading_mend.specs.SecondReading.{wholeBlocks, hasNumbers, MendsPiece, TellsRest, Breaks, TakesPiece, MendsRead};
+ghost use Rattle.io_streams.specs.Reads.{Within, mostReads};
+ghost use Rattle.io_reading_mend.specs.SecondReading.{wholeBlocks, hasNumbers, MendsPiece, TellsRest, Breaks, TakesPiece, MendsRead, Turns};
 
 // What comes of a read: where the reading stands then, how much there is to write and to say, and whether the
 // file has turned out to be another than it was.
@@ -85,6 +84,7 @@ fn blocks_mended(
             place: standing.place + blocks as u64,
             kept: taken.next,
             held,
+            reads: standing.reads,
             goes_on: true,
             is_well: true,
         },
@@ -202,8 +202,8 @@ fn mend_turn(
     report: &mut [u8],
     shows: Progress,
 ) -> Standing
-    requires { ⌜ (length (now input) ≡ 61440) × (length (now output) ≡ 61440) × (length (now report) ≡ 9960) × (standing .place < 4611686018427387904) × (standing .kept ≤ 65536) × (standing .held < 512) ⌝ }
-    ensures { λ r. ⌜ (r .place ≤ standing .place + 120) × (r .kept ≤ 65536) × (r .held < 512) ⌝ }
+    requires { ⌜ (length (now input) ≡ 61440) × (length (now output) ≡ 61440) × (length (now report) ≡ 9960) × (standing .place < 4611686018427387904) × (standing .kept ≤ 65536) × (standing .held < 512) × (standing .reads < mostReads) ⌝ }
+    ensures { λ r. ⌜ Turns standing r ⌝ }
 {
     let held = standing.held;
     let got = read_named(descriptor, name, shows, input, held);
@@ -215,7 +215,8 @@ fn mend_turn(
     let stands = turned.standing;
     let taken = turned.taken;
     let is_written = is_put(made, made_name, output, report, taken, shows);
-    after_write(stands, is_written)
+    let settled = after_write(stands, is_written);
+    after_read(settled, name, shows)
 }
 
 // Reads the file to its end, writes what comes of its blocks, and says the report. Answers what
@@ -234,9 +235,7 @@ pub fn mend_pass(
     let mut report = [0u8; 9960];
     let mut standing = begun();
     let mut shows = progress;
-    let mut turns = most_turns();
-    while turns > 0 && standing.goes_on {
-        turns -= 1;
+    while standing.goes_on {
         standing = mend_turn(
             descriptor,
             name,
@@ -250,5 +249,6 @@ pub fn mend_pass(
         );
         shows = shown(shows, progress.size / 512 + standing.place);
     }
-    after_turns(standing, name, shows)
+    erase(shows);
+    standing
 }

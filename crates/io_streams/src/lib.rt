@@ -1,6 +1,7 @@
 // What every program here does alike: it reads and writes in large pieces, says on standard error what
-// fails, and says to the launcher that something did. Of what is read and written nothing can be proved
-// but that a read stays within the piece that it is lent.
+// fails, and says to the launcher that something did. Proved is what a read gives by what the system answered,
+// that it stays within the piece that it is lent, and after how many reads a program makes no more; of which
+// bytes are read and written nothing can be.
 //
 // Assumes of the launcher (the script `tns`) that it opens descriptor 3 and ends with status 1 if a 1 is
 // written there, and with 2 if a 2 is. Where it is not open, nobody is told.
@@ -8,7 +9,7 @@ use libc::STDERR_FILENO;
 use libc::STDIN_FILENO;
 use libc::STDOUT_FILENO;
 ghost use mathlib.Core.Path.{_≡_};
-ghost use Rattle.io_streams.specs.Reads.{readOf, mostTurns, ReadAfter};
+ghost use Rattle.io_streams.specs.Reads.{readOf, isSpent, ReadAfter};
 
 // The descriptor that the launcher opens for a program to say that something was refused, or failed.
 const LAUNCHER: i32 = 3;
@@ -69,19 +70,17 @@ pub fn read_after(piece: &mut [u8], held: usize) -> Read
     read_from(STDIN_FILENO, b"tns: standard input", piece, held)
 }
 
-// How many turns a program's loop makes at most, each with a read, so that it ends.
-pub fn most_turns() -> u64
-    ensures { λ r. ⌜ r ≡ mostTurns ⌝ }
+// Whether a program that has made so many reads, and has more to read, has made all that it makes, so that its
+// loop ends. No run makes so many, but one that did would be cut short, which its program tells as a failure.
+pub fn is_spent(goes_on: bool, reads: u64) -> bool
+    ensures { λ r. ⌜ r ≡ isSpent «goes_on» reads ⌝ }
 {
-    0x20_0000_0000_0000
+    goes_on && reads >= 0x20_0000_0000_0000
 }
 
-// After a program's last turn: standard input that still goes on has not been taken to its end, and that is
-// a failure. No run makes so many turns, but none may end silently with its output cut.
-pub fn complain_if_unfinished(goes_on: bool) {
-    if goes_on {
-        complain(b"tns: standard input: too many reads\n");
-    }
+// Says that standard input was cut short after the last read that is made, and that the launcher's status is 2.
+pub fn complain_of_reads() {
+    complain(b"tns: standard input: too many reads\n");
 }
 
 // Writes all of a text to a descriptor, and answers whether it could. A failure is said at once, of what

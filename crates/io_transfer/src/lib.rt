@@ -6,8 +6,8 @@
 // is promised by what the read gave (`answered`); that it is written is not.
 //
 // The inner functions have a `requires`: the sizes of the two pieces, a block's number or the one after the
-// last, less than a block held. So `transfer` begins, and so each turn is proved to leave it. That a read
-// stays within its piece is a promise of io_streams. `BlockRefusal` is named because the kit asks
+// last, less than a block held, a read left to make. So `transfer` begins, and so each turn is proved to leave it
+// where it goes on. That a read stays within its piece is a promise of io_streams. `BlockRefusal` is named because the kit asks
 // for the crate of every type that a function meets, and what was put may end with one.
 use block_check::BlockRefusal;
 use io_blocks::Done;
@@ -18,20 +18,21 @@ use io_portion::size_of;
 use io_rest::keep_rest;
 use io_rest::whole_bytes;
 use io_streams::Read;
-use io_streams::complain_if_unfinished;
-use io_streams::most_turns;
+use io_streams::complain_of_reads;
+use io_streams::is_spent;
 use io_streams::read_after;
 ghost use mathlib.Core.Path.{_≡_};
 ghost use Prim.Native.Nat.{_≤_, _<_};
 ghost use lib.ListN.{length, take};
-ghost use Rattle.io_streams.specs.Reads.{Within};
-ghost use Rattle.io_transfer.specs.Transfer.{knownBytes, TakesPiece, TakesLast, AnswersRead, Settles};
+ghost use Rattle.io_streams.specs.Reads.{Within, mostReads};
+ghost use Rattle.io_transfer.specs.Transfer.{knownBytes, TakesPiece, TakesLast, AnswersRead, Settles, afterRead, Turns};
 
 // Where a program stands between two reads: the next block's number, how many bytes of a block not yet
-// whole are held at the start of the piece, and whether there is more to do.
+// whole are held at the start of the piece, how many reads were made, and whether another is to be made.
 struct Standing {
     number: u64,
     held: usize,
+    reads: u64,
     goes_on: bool,
 }
 
@@ -53,18 +54,25 @@ fn known(way: Way, held: usize) -> usize
 }
 
 // The whole blocks of what was read; the rest is kept.
-fn blocks_read(way: Way, input: &mut [u8], number: u64, read: usize, output: &mut [u8]) -> Turned
-    requires { ⌜ (number ≤ 65536) × (read ≤ 61440) × (length (now input) ≡ 61440) × (length (now output) ≡ 66048) ⌝ }
-    ensures { λ r. ⌜ TakesPiece way number read (now (input .entry)) (now (input .exit)) (now (output .exit)) r ⌝ }
+fn blocks_read(
+    way: Way,
+    input: &mut [u8],
+    standing: Standing,
+    read: usize,
+    output: &mut [u8],
+) -> Turned
+    requires { ⌜ (standing .number ≤ 65536) × (read ≤ 61440) × (length (now input) ≡ 61440) × (length (now output) ≡ 66048) ⌝ }
+    ensures { λ r. ⌜ TakesPiece way standing read (now (input .entry)) (now (input .exit)) (now (output .exit)) r ⌝ }
 {
     let size = size_of(way);
     let whole = whole_bytes(size, read);
-    let put = put_blocks(way, number, &input[..whole], output);
+    let put = put_blocks(way, standing.number, &input[..whole], output);
     let held = keep_rest(input, size, read);
     Turned {
         standing: Standing {
             number: put.next,
             held,
+            reads: standing.reads,
             goes_on: true,
         },
         put,
@@ -72,15 +80,16 @@ fn blocks_read(way: Way, input: &mut [u8], number: u64, read: usize, output: &mu
 }
 
 // Input has ended, or failed: what is held is the last block.
-fn last_block(way: Way, input: &[u8], number: u64, held: usize, output: &mut [u8]) -> Turned
-    requires { ⌜ (number ≤ 65536) × (held < 512) × (length (now input) ≡ 61440) × (length (now output) ≡ 66048) ⌝ }
-    ensures { λ r. ⌜ TakesLast way number (take held (now (input .entry))) (now (output .exit)) r ⌝ }
+fn last_block(way: Way, input: &[u8], standing: Standing, held: usize, output: &mut [u8]) -> Turned
+    requires { ⌜ (standing .number ≤ 65536) × (held < 512) × (length (now input) ≡ 61440) × (length (now output) ≡ 66048) ⌝ }
+    ensures { λ r. ⌜ TakesLast way standing (take held (now (input .entry))) (now (output .exit)) r ⌝ }
 {
-    let put = put_blocks(way, number, &input[..held], output);
+    let put = put_blocks(way, standing.number, &input[..held], output);
     Turned {
         standing: Standing {
             number: put.next,
             held: 0,
+            reads: standing.reads,
             goes_on: false,
         },
         put,
@@ -93,11 +102,10 @@ fn answered(way: Way, got: Read, input: &mut [u8], standing: Standing, output: &
     ensures { λ r. ⌜ AnswersRead way got standing (now (input .entry)) (now (input .exit)) (now (output .exit)) r ⌝ }
 {
     let held = standing.held;
-    let number = standing.number;
     match got {
-        Read::Bytes(count) => blocks_read(way, input, number, held + count, output),
-        Read::End => last_block(way, input, number, held, output),
-        Read::Failed => last_block(way, input, number, known(way, held), output),
+        Read::Bytes(count) => blocks_read(way, input, standing, held + count, output),
+        Read::End => last_block(way, input, standing, held, output),
+        Read::Failed => last_block(way, input, standing, known(way, held), output),
     }
 }
 
@@ -113,19 +121,45 @@ fn written(turned: Turned, output: &[u8]) -> Standing
     Standing {
         number: stands.number,
         held: stands.held,
+        reads: stands.reads,
         goes_on: stands.goes_on && goes_on,
+    }
+}
+
+// One read more is made. Where the program goes on and none is left to make, it ends there, and that is said as a
+// failure: no run makes so many, but none may end as if its output were whole.
+fn after_read(standing: Standing) -> Standing
+    requires { ⌜ standing .reads < mostReads ⌝ }
+    ensures { λ r. ⌜ r ≡ afterRead standing ⌝ }
+{
+    let reads = standing.reads + 1;
+    if is_spent(standing.goes_on, reads) {
+        complain_of_reads();
+        return Standing {
+            number: standing.number,
+            held: standing.held,
+            reads,
+            goes_on: false,
+        };
+    }
+    Standing {
+        number: standing.number,
+        held: standing.held,
+        reads,
+        goes_on: standing.goes_on,
     }
 }
 
 // One read, what comes of it, and where the program stands once that is written.
 fn turn(way: Way, input: &mut [u8], standing: Standing, output: &mut [u8]) -> Standing
-    requires { ⌜ (standing .number ≤ 65536) × (standing .held < 512) × (length (now input) ≡ 61440) × (length (now output) ≡ 66048) ⌝ }
-    ensures { λ r. ⌜ (r .number ≤ 65536) × (r .held < 512) ⌝ }
+    requires { ⌜ (standing .number ≤ 65536) × (standing .held < 512) × (length (now input) ≡ 61440) × (length (now output) ≡ 66048) × (standing .reads < mostReads) ⌝ }
+    ensures { λ r. ⌜ Turns standing r ⌝ }
 {
     let held = standing.held;
     let got = read_after(input, held);
     let turned = answered(way, got, input, standing, output);
-    written(turned, output)
+    let stands = written(turned, output);
+    after_read(stands)
 }
 
 // Takes all of standard input to standard output.
@@ -135,12 +169,10 @@ pub fn transfer(way: Way) {
     let mut standing = Standing {
         number: 0,
         held: 0,
+        reads: 0,
         goes_on: true,
     };
-    let mut turns = most_turns();
-    while turns > 0 && standing.goes_on {
+    while standing.goes_on {
         standing = turn(way, &mut input, standing, &mut output);
-        turns -= 1;
     }
-    complain_if_unfinished(standing.goes_on);
 }

@@ -1,5 +1,6 @@
 -- What is said of bytes left over; and whatever a read gives, the lines lie within the output, a turn adds at most 800 frames and holds less than a record.
-use mathlib.Core.Path.{_≡_, refl}
+use mathlib.Core.Path.{_≡_, refl, sym, ap, _∙_}
+use mathlib.Core.Bool.{true}
 use mathlib.Core.List.{List, [], _∷_}
 use Prim.Native.Nat.{ℕ, _+_, _≤_, _<_}
 use native.Mathlib.Omega.{arith}
@@ -7,11 +8,12 @@ use lib.ListN.{length, take}
 use Rattle.io.specs.Counts.{Counts}
 use Rattle.cost_bytes.specs.SideBytes.{lineOf}
 use Rattle.io_rest.proofs.Rests.{rest-below}
-use Rattle.io_streams.specs.Reads.{Within}
+use Rattle.io_streams.specs.Reads.{Within, mostReads}
 use Rattle.io_streams.specs.declared.Read.{Read}
 use Rattle.io_streams.specs.declared.Read.the-variants as read
+use Rattle.io_streams.proofs.ReadsGiven.{one-left}
 use Rattle.text_answers.specs.Wording.{lineText}
-use Rattle.prog_bits.specs.Output.{restText, AnswersRead}
+use Rattle.prog_bits.specs.Output.{restText, AnswersRest, AnswersRead, afterRead}
 use Rattle.prog_bits.specs.declared.Standing.{Standing}
 use Rattle.prog_bits.specs.declared.Turned.{Turned}
 
@@ -22,12 +24,29 @@ some-left frame (byte ∷ rest) some = refl
 pub none-left : (frame held : ℕ) (bytes : List ℕ) → held ≡ 0 → [] ≡ restText frame (take held bytes)
 none-left frame held bytes none = rw none
 
-abbrev InRange : Standing → List ℕ → Turned → Type 0
-InRange standing output result = Counts (result .count) output × (result .standing .frame ≤ standing .frame + 800) × (result .standing .held < 20)
+pub record InRange (standing : Standing) (output : List ℕ) (result : Turned) : Type 0 where
+  pub counts : Counts (result .count) output
+  pub frame : result .standing .frame ≤ standing .frame + 800
+  pub held : result .standing .held < 20
+  pub reads : result .standing .reads ≡ standing .reads
 
-pub still-in-range : (got : Read) (standing : Standing) (found left output : List ℕ) (result : Turned) → length found ≤ 16000 → Within (standing .held) (length found) got
-    → AnswersRead got standing found left output result → InRange standing output result
-still-in-range (read.Bytes count) standing found left output result short w a =
-    (a .lines .counts, omega (arith, a .next-frame, w .1), omega (arith, a .keeps .so-many, rest-below 20 (standing .held + count) (omega arith)))
-still-in-range read.End standing found left output result short w a = (a .counts, omega (arith, a .same-frame), omega (arith, a .none))
-still-in-range read.Failed standing found left output result short w a = (a .counts, omega (arith, a .same-frame), omega (arith, a .none))
+module _ (standing : Standing) (found left output : List ℕ) (result : Turned) where
+  rest-in-range : (bytes : List ℕ) → AnswersRest standing bytes output result → InRange standing output result
+  rest-in-range bytes a = record { counts = a .counts; frame = omega (arith, a .same-frame); held = omega (arith, a .none); reads = a .reads }
+
+  pub still-in-range : (got : Read) → length found ≤ 16000 → Within (standing .held) (length found) got → AnswersRead got standing found left output result
+      → InRange standing output result
+  still-in-range (read.Bytes count) short w a =
+      record {
+        counts = a .lines .counts;
+        frame = omega (arith, a .next-frame, w .1);
+        held = omega (arith, a .keeps .so-many, rest-below 20 (standing .held + count) (omega arith));
+        reads = a .reads;
+      }
+  still-in-range read.End short w a = rest-in-range (take (standing .held) found) a
+  still-in-range read.Failed short w a = rest-in-range (take (standing .held) found) a
+
+-- once a read is counted, one that goes on has one left to make
+pub reads-left : (standing result : Standing) → result ≡ afterRead standing → result .«goes_on» ≡ true → result .reads < mostReads
+reads-left standing result e on =
+    omega (arith, ap (λ (s : Standing). s .reads) e, one-left (standing .«goes_on») (standing .reads + 1) (sym (ap (λ (s : Standing). s .«goes_on») e) ∙ on))

@@ -1,12 +1,13 @@
 -- Document 01, "The program reads 20-byte records": one line each, in order, numbered on.
 use mathlib.Core.Path.{_≡_}
-use mathlib.Core.Bool.{true, false}
+use mathlib.Core.Bool.{true, false, cond}
 use mathlib.Core.List.{List, [], _∷_, _++_}
-use Prim.Native.Nat.{ℕ, zero, suc, _+_, _*_, _/_}
+use Prim.Native.Nat.{ℕ, zero, suc, _+_, _*_, _/_, _≤_, _<_}
 use lib.ListN.{take, drop}
 use Rattle.io.specs.Counts.{Counts}
 use Rattle.cost_bytes.specs.SideBytes.{lineOf}
 use Rattle.io_rest.specs.Rest.{KeepsRest}
+use Rattle.io_streams.specs.Reads.{mostReads, isSpent}
 use Rattle.io_streams.specs.declared.Read.{Read}
 use Rattle.io_streams.specs.declared.Read.the-variants as read
 use Rattle.text_answers.specs.Wording.{lineText}
@@ -33,28 +34,48 @@ restText frame [] = []
 restText frame (byte ∷ rest) = lineText frame (lineOf (byte ∷ rest))
 
 -- the whole records of the first bytes read are answered, what is left of those bytes is held, and there is more to read
-pub record AnswersPiece (frame read : ℕ) (found left output : List ℕ) (result : Turned) : Type 0 where
-  pub lines : PutsLines frame found (read / 20) (result .count) output
-  pub next-frame : result .standing .frame ≡ frame + read / 20
+pub record AnswersPiece (standing : Standing) (read : ℕ) (found left output : List ℕ) (result : Turned) : Type 0 where
+  pub lines : PutsLines (standing .frame) found (read / 20) (result .count) output
+  pub next-frame : result .standing .frame ≡ standing .frame + read / 20
   pub keeps : KeepsRest 20 read found left (result .standing .held)
+  pub reads : result .standing .reads ≡ standing .reads
   pub on : result .standing .«goes_on» ≡ true
 
 -- the bytes left over are answered, and nothing goes on
-pub record AnswersRest (frame : ℕ) (bytes output : List ℕ) (result : Turned) : Type 0 where
+pub record AnswersRest (standing : Standing) (bytes output : List ℕ) (result : Turned) : Type 0 where
   pub counts : Counts (result .count) output
-  pub line : take (result .count) output ≡ restText frame bytes
-  pub same-frame : result .standing .frame ≡ frame
+  pub line : take (result .count) output ≡ restText (standing .frame) bytes
+  pub same-frame : result .standing .frame ≡ standing .frame
   pub none : result .standing .held ≡ 0
+  pub reads : result .standing .reads ≡ standing .reads
   pub ends : result .standing .«goes_on» ≡ false
 
 -- by what a read gives: more bytes behind those held; or the end, or a failure, at which those held are left over
 abbrev pub AnswersRead : Read → Standing → List ℕ → List ℕ → List ℕ → Turned → Type 0
-AnswersRead (read.Bytes count) standing found left output result = AnswersPiece (standing .frame) (standing .held + count) found left output result
-AnswersRead read.End standing found left output result = AnswersRest (standing .frame) (take (standing .held) found) output result
-AnswersRead read.Failed standing found left output result = AnswersRest (standing .frame) (take (standing .held) found) output result
+AnswersRead (read.Bytes count) standing found left output result = AnswersPiece standing (standing .held + count) found left output result
+AnswersRead read.End standing found left output result = AnswersRest standing (take (standing .held) found) output result
+AnswersRead read.Failed standing found left output result = AnswersRest standing (take (standing .held) found) output result
 
 -- once the lines are written, or could not be: where it goes on there is more to read
 pub record Settles (turned : Turned) (result : Standing) : Type 0 where
   pub frame : result .frame ≡ turned .standing .frame
   pub held : result .held ≡ turned .standing .held
+  pub reads : result .reads ≡ turned .standing .reads
   pub more : result .«goes_on» ≡ true → turned .standing .«goes_on» ≡ true
+
+-- after a read: one more is made, and where none is left to make nothing goes on
+abbrev pub afterRead : Standing → Standing
+afterRead standing =
+    record {
+      frame = standing .frame;
+      held = standing .held;
+      reads = standing .reads + 1;
+      «goes_on» = cond (isSpent (standing .«goes_on») (standing .reads + 1)) false (standing .«goes_on»);
+    }
+
+-- a turn makes one read more, adds the records of a piece at most, holds less than one, and where it goes on a read is left to make
+pub record Turns (standing result : Standing) : Type 0 where
+  pub frame : result .frame ≤ standing .frame + 800
+  pub held : result .held < 20
+  pub reads : result .reads ≡ standing .reads + 1
+  pub left : result .«goes_on» ≡ true → result .reads < mostReads

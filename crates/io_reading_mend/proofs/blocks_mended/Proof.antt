@@ -1,6 +1,5 @@
 -- The whole blocks lie within the piece, and so does what they become within the output. What is left of them is kept.
 use mathlib.Core.Path.{refl, subst}
-use mathlib.Core.List.{List}
 use Prim.Native.Nat.{ℕ}
 use native.Mathlib.Omega.{arith}
 use borrow.Author.Needs.{needs}
@@ -44,7 +43,7 @@ returns c =
     let kept = c .before .before .before in
     let called = kept .before .before .before .before .before .before in
     record {
-      passes = record { place = refl; keeps = kept .keep-rest .ensures; on = refl; well = refl };
+      passes = record { place = refl; keeps = kept .keep-rest .ensures; reads = refl; on = refl; well = refl };
       rescues = done called;
       kept = refl;
       same = refl;

@@ -1,36 +1,63 @@
--- It ends: the turns are counted down. No number wraps: a turn adds 120 at most.
+-- It ends: where it goes on a read is left to make. No number wraps: a read adds 120 at most.
 use mathlib.Core.Path.{_≡_, ap}
-use Prim.Native.Nat.{_+_, _*_, _≤_, _<_}
+use mathlib.Core.Bool.{true}
+use Prim.Native.Nat.{_-_, _*_, _≤_, _<_}
 use native.Mathlib.Omega.{arith}
 use borrow.Author.Needs.{needs}
 use lib.ListN.{length}
-use Rattle.io_streams.specs.Reads.{mostTurns}
+use Rattle.io_streams.specs.Reads.{mostReads}
 use Rattle.io_reading.specs.declared.Standing.{Standing}
-use Rattle.io_reading.proofs.Ends.{goes-no-further}
 use Rattle.io_reading_mend.proofs.mend_pass.Statement.{statement}
 use Rattle.io_reading_mend.proofs.mend_pass.Tie as tie
 
 abbrev Inv-loop : tie.InvT-loop
-Inv-loop descriptor name made made-name progress input₀ output₀ report₀ standing₀ shows₀ turns₀ input output report standing shows turns =
+Inv-loop descriptor name made made-name progress input₀ output₀ report₀ standing₀ shows₀ input output report standing shows =
     (length input ≡ 61440) × (length output ≡ 61440) × (length report ≡ 9960) × (standing .held < 512) × (standing .kept ≤ 65536)
-    × (standing .place + 120 * turns ≤ 120 * mostTurns)
+    × (standing .place ≤ 120 * standing .reads) × (standing .«goes_on» ≡ true → standing .reads < mostReads)
 
 abbrev μ-loop : tie.MeasureT-loop
-μ-loop descriptor name made made-name progress input₀ output₀ report₀ standing₀ shows₀ turns₀ input output report standing shows turns = turns
+μ-loop descriptor name made made-name progress input₀ output₀ report₀ standing₀ shows₀ input output report standing shows = mostReads - standing .reads
 
 loop-holds : tie.Need-loop-holds Inv-loop μ-loop
 loop-holds c =
-    let begins = c .before .begun .ensures in (
+    let begins = c .begun .ensures in
+    let reads = ap (λ (s : Standing). s .reads) begins in (
       omega arith,
       omega arith,
       omega arith,
       omega (arith, ap (λ (s : Standing). s .held) begins),
       omega (arith, ap (λ (s : Standing). s .kept) begins),
-      omega (arith, c .most-turns .ensures, ap (λ (s : Standing). s .place) begins),
+      omega (arith, ap (λ (s : Standing). s .place) begins),
+      λ on. omega (arith, reads),
     )
 
-returns : tie.Need-returns Inv-loop μ-loop
-returns c = goes-no-further (c .before .before .loop .standing) (c .after-turns .result) (c .after-turns .ensures)
+-- a read is left to make
+left : (c : tie.In-loop Inv-loop μ-loop) → c .before .loop .standing .reads < mostReads
+left c = c .before .loop .inv .6 (c .loop-test .taken)
+
+mend-turn-requires : tie.Need-mend-turn-requires Inv-loop μ-loop
+mend-turn-requires c κs =
+    let here = c .before .before .before in
+    let l = here .before .loop in
+    (omega arith, omega arith, omega arith, omega (arith, left here, l .inv .5), l .inv .4, l .inv .3, left here)
+
+add-shown : tie.Need-add-shown Inv-loop μ-loop
+add-shown c =
+    let turned = c .before .before .before .before .before in
+    let here = turned .before .before .before .before in
+    omega (arith, turned .mend-turn .ensures .place, left here, here .before .loop .inv .5)
+
+loop-less : tie.Need-loop-less Inv-loop μ-loop
+loop-less c =
+    let turned = c .before .before .before .before .before .before in
+    omega (arith, turned .mend-turn .ensures .reads, left (turned .before .before .before .before))
+
+loop-again : tie.Need-loop-again Inv-loop μ-loop
+loop-again c =
+    let turned = c .before .before .before .before .before .before in
+    let l = turned .before .before .before .before .before .loop in
+    let t = turned .mend-turn .ensures in
+    (omega arith, omega arith, omega arith, t .held, t .kept, omega (arith, t .place, t .reads, l .inv .5), t .left)
 
 pub mend-pass-spec : {M : Type 1} → statement M
 mend-pass-spec =
@@ -39,16 +66,14 @@ mend-pass-spec =
     Inv-loop
     μ-loop
     (λ c κs. search needs)
-    (λ c κs. search needs)
     loop-holds
     (λ c. search needs)
     (λ c. search needs)
     (λ c. search needs)
-    (λ c. search needs)
+    mend-turn-requires
+    add-shown
     (λ c κs. search needs)
-    (λ c. search needs)
+    loop-less
+    loop-again
     (λ c κs. search needs)
-    (λ c. search needs)
-    (λ c. search needs)
-    (λ c κs. search needs)
-    returns)
+    (λ c. search needs))

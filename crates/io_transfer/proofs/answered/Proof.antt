@@ -54,7 +54,7 @@ returns-3 c =
     let g = told .before .before .before .before .args in
     let out = called .last-block2 .last .1 .1 .1 .1 .0 in
     subst (λ (r : Read). AnswersRead (g .way) r (g .standing) (g .input .now) (g .input .now) out (called .last-block2 .result)) (sym (told .enum-told2 .given .1))
-    (subst (λ (k : ℕ). TakesLast (g .way) (g .standing .number) (take k (g .input .now)) out (called .last-block2 .result)) (asked .known .ensures) (called .last-block2 .ensures))
+    (subst (λ (k : ℕ). TakesLast (g .way) (g .standing) (take k (g .input .now)) out (called .last-block2 .result)) (asked .known .ensures) (called .last-block2 .ensures))
 
 pub answered-spec : {M : Type 1} → statement M
 answered-spec =

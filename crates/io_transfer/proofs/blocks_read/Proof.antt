@@ -36,13 +36,13 @@ slice-aggregate-put-blocks c =
 -- what becomes of them: they are few enough, and there is room
 done : (c : tie.After-put-blocks) →
     let g = c .before .before .before .before .before .before .before .args in
-    PutsBlocks (g .way) (g .number) (take (wholeBytes (sizeOf (g .way)) (g .read)) (g .input .now)) (c .put-blocks .last .1 .1 .1 .0) (c .put-blocks .result)
+    PutsBlocks (g .way) (g .standing .number) (take (wholeBytes (sizeOf (g .way)) (g .read)) (g .input .now)) (c .put-blocks .last .1 .1 .1 .0) (c .put-blocks .result)
 done c =
     let called = c .before .before .before in
     let start = called .before .before .before .before in
     let g = start .args in
     let output = c .put-blocks .last .1 .1 .1 .0 in
-    subst (λ (n : ℕ). PutsBlocks (g .way) (g .number) (take n (g .input .now)) output (c .put-blocks .result)) (counted called)
+    subst (λ (n : ℕ). PutsBlocks (g .way) (g .standing .number) (take n (g .input .now)) output (c .put-blocks .result)) (counted called)
     (c .put-blocks .ensures
     (start .pre .0, omega (arith, within called, start .pre .1, length-take (called .whole-bytes .result) (g .input .now)), omega (arith, start .pre .3)))
 
@@ -56,6 +56,7 @@ returns c =
       puts = done put;
       next = refl;
       keeps = subst (λ (size : ℕ). KeepsRest size (g .read) (g .input .now) (kept .keep-rest .last .0) (kept .keep-rest .result)) (sized .size-of .ensures) (kept .keep-rest .ensures);
+      reads = refl;
       on = refl;
     }
 

@@ -21,6 +21,7 @@ returns c =
       puts = put .put-blocks .ensures (start .pre .0, omega (arith, start .pre .1, length-take (start .args .held) (start .args .input .now)), omega (arith, start .pre .3));
       next = refl;
       none = refl;
+      reads = refl;
       ends = refl;
     }
 

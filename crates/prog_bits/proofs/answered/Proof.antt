@@ -36,7 +36,7 @@ returns-2 c =
     let called = c .before .before in
     let told = called .before .before .before in
     let g = told .before .before .before .before .args in
-    subst (λ (r : Read). AnswersRead r (g .standing) (g .input .now) (g .input .now) (called .rest-answered .last .1 .1 .1 .0) (called .rest-answered .result)) (sym (told .enum-told .given .1))
+    subst (λ (r : Read). AnswersRead r (g .standing) (g .input .now) (g .input .now) (called .rest-answered .last .1 .1 .0) (called .rest-answered .result)) (sym (told .enum-told .given .1))
     (called .rest-answered .ensures)
 
 returns-3 : tie.Need-returns-3
@@ -44,7 +44,7 @@ returns-3 c =
     let called = c .before .before in
     let told = called .before .before .before in
     let g = told .before .before .before .before .args in
-    subst (λ (r : Read). AnswersRead r (g .standing) (g .input .now) (g .input .now) (called .rest-answered2 .last .1 .1 .1 .0) (called .rest-answered2 .result)) (sym (told .enum-told2 .given .1))
+    subst (λ (r : Read). AnswersRead r (g .standing) (g .input .now) (g .input .now) (called .rest-answered2 .last .1 .1 .0) (called .rest-answered2 .result)) (sym (told .enum-told2 .given .1))
     (called .rest-answered2 .ensures)
 
 pub answered-spec : {M : Type 1} → statement M

@@ -1,19 +1,44 @@
--- `prog_bits::main` ends: the turns are counted down. No frame number wraps: a turn adds 800 at most.
+-- `prog_bits::main` ends: where it goes on a read is left to make. No frame number wraps: a read adds 800 at most.
 use mathlib.Core.Path.{_≡_}
-use Prim.Native.Nat.{_+_, _*_, _≤_, _<_}
+use mathlib.Core.Bool.{true}
+use Prim.Native.Nat.{_-_, _*_, _≤_, _<_}
 use native.Mathlib.Omega.{arith}
 use borrow.Author.Needs.{needs}
 use lib.ListN.{length}
-use Rattle.io_streams.specs.Reads.{mostTurns}
+use Rattle.io_streams.specs.Reads.{mostReads}
 use Rattle.prog_bits.proofs.main.Statement.{statement}
 use Rattle.prog_bits.proofs.main.Tie as tie
 
 abbrev Inv-loop : tie.InvT-loop
-Inv-loop input₀ output₀ standing₀ turns₀ input output standing turns =
-    (length input ≡ 16000) × (length output ≡ 65536) × (standing .held < 20) × (standing .frame + 800 * turns ≤ 800 * mostTurns)
+Inv-loop input₀ output₀ standing₀ input output standing =
+    (length input ≡ 16000) × (length output ≡ 65536) × (standing .frame ≤ 800 * standing .reads) × (standing .held < 20) × (standing .«goes_on» ≡ true → standing .reads < mostReads)
 
 abbrev μ-loop : tie.MeasureT-loop
-μ-loop input₀ output₀ standing₀ turns₀ input output standing turns = turns
+μ-loop input₀ output₀ standing₀ input output standing = mostReads - standing .reads
+
+loop-holds : tie.Need-loop-holds Inv-loop μ-loop
+loop-holds c = (omega arith, omega arith, omega arith, omega arith, λ on. omega arith)
+
+-- a read is left to make
+left : (c : tie.In-loop Inv-loop μ-loop) → c .before .loop .standing .reads < mostReads
+left c = c .before .loop .inv .4 (c .loop-test .taken)
+
+turn-requires : tie.Need-turn-requires Inv-loop μ-loop
+turn-requires c κs =
+    let here = c .before .before in
+    let l = here .before .loop in
+    (omega arith, omega arith, l .inv .3, omega (arith, left here, l .inv .2), left here)
+
+loop-less : tie.Need-loop-less Inv-loop μ-loop
+loop-less c =
+    let turned = c .before .before in
+    omega (arith, turned .turn .ensures .reads, left (turned .before .before .before))
+
+loop-again : tie.Need-loop-again Inv-loop μ-loop
+loop-again c =
+    let turned = c .before .before in
+    let t = turned .turn .ensures in
+    (omega arith, omega arith, omega (arith, t .frame, t .reads, turned .before .before .before .before .loop .inv .2), t .held, t .left)
 
 pub main-spec : {M : Type 1} → statement M
 main-spec =
@@ -21,13 +46,10 @@ main-spec =
     (tie.spec
     Inv-loop
     μ-loop
-    (λ c κs. search needs)
+    loop-holds
     (λ c. search needs)
     (λ c. search needs)
-    (λ c. search needs)
-    (λ c κs. search needs)
-    (λ c. omega arith)
-    (λ c. omega arith)
-    (λ c. search needs)
-    (λ c κs. search needs)
+    turn-requires
+    loop-less
+    loop-again
     (λ c. search needs))
