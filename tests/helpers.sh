@@ -38,18 +38,18 @@ builds() { # NAME..: of tests/NAME.c
     for name; do ${HOSTCC:-${CC:-cc}} -std=c99 -O2 -Wall -Wextra -Werror -o "$name" "$root/tests/$name.c"; done
 }
 
-# The library of tests/reads.c, and a launcher whose programs are these with the library before them:
+# The library of tests/calls.c, and a launcher whose programs are these with the library before them:
 # interposed/tns, which is to be called in this folder. The library is the program's alone, not the launcher's.
 interposes() { # PROGRAM..
-    ${CC:-cc} -std=c99 -O2 -Wall -Wextra -Werror -shared -fPIC -o reads.so "$root/tests/reads.c"
+    ${CC:-cc} -std=c99 -O2 -Wall -Wextra -Werror -shared -fPIC -o calls.so "$root/tests/calls.c"
     mkdir -p interposed/target/bin
     cp "$tns" interposed/tns
     ln -s "$programs" interposed/programs
     for each; do
         cat >"interposed/target/bin/$each" <<'END'
 #!/bin/sh
-rm -f reads.told
-LD_PRELOAD=./reads.so
+rm -f calls.told calls.kept
+LD_PRELOAD=./calls.so
 export LD_PRELOAD
 exec "./interposed/programs/${0##*/}" "$@"
 END
@@ -57,26 +57,29 @@ END
     done
 }
 
-# That launcher: reads come as $1 says, and the one of the number $2 fails. The first is 1, and 0 is none.
+# That launcher: reads come as $1 says, and $2 fails, the read of that number or another call. The first read is 1,
+# and 0 is nothing. The clock is the system's.
 interposed() { # READS FAILING WORD..
-    TNS_READS=$1 TNS_READS_FAIL=$2
-    export TNS_READS TNS_READS_FAIL
+    TNS_READS=$1 TNS_FAILS=$2 TNS_CLOCK=0
+    export TNS_READS TNS_FAILS TNS_CLOCK
     shift 2
     ./interposed/tns "$@"
 }
 
-# What the library told last: $reads is how many there were, $cuts how many it made short, $gave how many bytes
-# they gave, and $end the number of the first that gave the end. Where it was not there they are 0.
-asks_reads() {
-    reads=0 cuts=0 gave=0 end=0
-    [ ! -f reads.told ] || read -r reads cuts gave end <reads.told
-    rm -f reads.told
+# What the library told last: $reads is how many reads there were, $cuts how many it made short, $gave how many
+# bytes they gave, $end the number of the first that gave the end, $final how many bytes the last gave that gave
+# some, $failures how often a call was made to fail, and $seconds how many went by on its own clock. Where it was not
+# there they are 0.
+asks_calls() {
+    reads=0 cuts=0 gave=0 end=0 final=0 failures=0 seconds=0
+    [ ! -f calls.told ] || read -r reads cuts gave end final failures seconds <calls.told
+    rm -f calls.told
 }
 
 # The reads of the last run came as $2 says, and gave $3 bytes to their end, $4 times over. By single bytes there
 # is one for each, and one for the end; of the others some were made short, and some were not.
 expect_reads() { # NAME READS BYTES TIMES
-    asks_reads
+    asks_calls
     why=
     [ "$gave" -eq $(($3 * $4)) ] || why="$gave bytes, not $(($3 * $4))"
     case $2 in

@@ -11,7 +11,9 @@
  *
  *   silent         nothing was written
  *   plain          no percent was shown
- *   progress N     N different percents were shown, none over 100, and none after a higher one
+ *   progress N HIGHEST TIMES
+ *                  N different percents were shown, none over 100, and none after a higher one,
+ *                  the last being HIGHEST; and so many times one was written
  *   wrong: WHY     something else, or the cursor ends at another place than a line's start
  *
  * Status 124 if the command does not end within five minutes, 125 if there is no terminal to be had, the
@@ -87,7 +89,7 @@ static void control(int number, int letter) {
 
 /* The percents. */
 
-static long shown, last_percent = -1;
+static long shown, times, last_percent = -1;
 
 /* The number before a percent sign, perhaps after a blank. */
 static void take_percent(void) {
@@ -101,6 +103,7 @@ static void take_percent(void) {
     if (digits == 0 || percent > 100) wrong = "a percent sign after no number up to 100";
     if (percent < last_percent) wrong = "a percent after a higher one";
     if (percent != last_percent) shown++;
+    times++;
     last_percent = percent;
 }
 
@@ -197,7 +200,7 @@ static void tell(const char *name, long long count) {
     else if (shown == 0)
         fprintf(told, "plain\n");
     else
-        fprintf(told, "progress %ld\n", shown);
+        fprintf(told, "progress %ld %ld %ld\n", shown, last_percent, times);
     if (fclose(told) != 0) end(UNABLE, "the files cannot be written");
 }
 
