@@ -1,4 +1,4 @@
--- No more than all is ever shown: of both readings, which have twice as many blocks as the file, 100 percent at most.
+-- Where no more blocks are done than two readings of a file of that size have, no more than 100 percent is.
 use Prim.Native.Nat.{ℕ, _+_, _*_, _/_, _≤_, _<_}
 use native.Mathlib.Nat.{div-lt-iff-lt-mul}
 use native.Mathlib.Omega.{arith}

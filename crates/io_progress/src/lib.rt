@@ -1,6 +1,7 @@
 // How far a rescue is, on standard error where that is a terminal: the part of both readings that is done,
 // each second from the second one on. And how a file is named where something is said of it meanwhile.
-// What is shown is promised by what the clock says; what that is, and what stands on a terminal, cannot be.
+// How high a percent is, and from when on one is shown, is promised; that it is shown, once a second and at a
+// terminal alone, is tested.
 use libc::STDERR_FILENO;
 use text_put::put;
 use text_put::put_numbered;

@@ -1,13 +1,13 @@
 -- After a read one more is made, all else stands or the reading ends, and one that goes on has a read left to make.
-use mathlib.Core.Path.{_≡_, refl, ap, _∙_}
+use mathlib.Core.Path.{_≡_, refl}
 use mathlib.Core.Bool.{Bool, true, false, cond, false≢true}
-use Prim.Native.Nat.{ℕ, _+_, _<_}
+use Prim.Native.Nat.{_+_, _<_}
 use Rattle.io_streams.specs.Reads.{mostReads, isSpent}
 use Rattle.io_streams.proofs.ReadsGiven.{not-spent}
 use Rattle.io_reading.specs.Stands.{endedAs, oneRead, afterRead}
 use Rattle.io_reading.specs.declared.Standing.{Standing}
 
--- what is found so far is the same
+-- what is found so far is the same, one read more is made, and where it goes on one is left to make
 pub record Stays (standing result : Standing) : Type 0 where
   pub place : result .place ≡ standing .place
   pub kept : result .kept ≡ standing .kept

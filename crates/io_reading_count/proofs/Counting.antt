@@ -1,4 +1,4 @@
--- Whatever a read gives, a turn adds 120 blocks at most and holds less than one.
+-- Whatever a read gives, a turn adds 120 blocks at most, holds less than one, and makes one read more.
 use mathlib.Core.Path.{_≡_, refl}
 use mathlib.Core.List.{List}
 use Prim.Native.Nat.{ℕ, _+_, _≤_, _<_}
@@ -36,7 +36,7 @@ still-in-range (Bytes count) standing found left result short less w a =
 still-in-range End standing found left result short less w a = rw a (record { place = omega arith; kept = omega arith; held = less; reads = refl })
 still-in-range Failed standing found left result short less w a = rw a (record { place = omega arith; kept = omega arith; held = less; reads = refl })
 
--- and then
+-- once the read is counted
 pub turns : (standing stands result : Standing) → InRange standing stands → result ≡ afterRead stands → Turns standing result
 turns standing stands result r e =
     let s = stays stands result e in

@@ -69,7 +69,7 @@ pub written-in-range : (written : Bool) (standing stands result : Standing) → 
 written-in-range true standing stands result e h = rw e h
 written-in-range false standing stands result e h = rw e (record { place = h .place; kept = h .kept; held = h .held; reads = h .reads })
 
--- and then
+-- once the read is counted
 pub turns : (standing stands result : Standing) → InRange standing stands → result ≡ afterRead stands → Turns standing result
 turns standing stands result r e =
     let s = stays stands result e in

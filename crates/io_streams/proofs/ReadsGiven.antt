@@ -1,4 +1,4 @@
--- By whether a read failed and how many bytes it gave: what is given, and where they lie. And that bytes which are given lie within the piece; and when a read is left to make.
+-- What a read gives, by whether the system's failed and how many bytes it gave; that these lie within the piece; and when a read is left to make.
 use mathlib.Core.Path.{_≡_, refl, sym, ap, _∙_, subst}
 use mathlib.Core.Bool.{Bool, true, false, cond, false≢true}
 use Prim.Native.Nat.{ℕ, zero, suc, _+_, _≤_, _<_}

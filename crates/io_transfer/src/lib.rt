@@ -6,9 +6,10 @@
 // is promised by what the read gave (`answered`); that it is written is not.
 //
 // The inner functions have a `requires`: the sizes of the two pieces, a block's number or the one after the
-// last, less than a block held, a read left to make. So `transfer` begins, and so each turn is proved to leave it
-// where it goes on. That a read stays within its piece is a promise of io_streams. `BlockRefusal` is named because the kit asks
-// for the crate of every type that a function meets, and what was put may end with one.
+// last, less than a block held, a read left to make, and for `written` no more put than its piece has, which
+// `answered` promises. So `transfer` begins, and so each turn is proved to leave it where it goes on. That a read
+// stays within its piece is a promise of io_streams. `BlockRefusal` is named because the kit asks for the crate
+// of every type that a function meets, and what was put may end with one.
 use block_check::BlockRefusal;
 use io_blocks::Done;
 use io_blocks::put_blocks;
@@ -109,8 +110,8 @@ fn answered(way: Way, got: Read, input: &mut [u8], standing: Standing, output: &
     }
 }
 
-// Writes what was put, and answers where the program stands then: it goes on only where there is more to read and
-// nothing was refused.
+// Writes what was put, and answers where the program stands then: it goes on only where there is more to read,
+// nothing was refused, and what was put could be written.
 fn written(turned: Turned, output: &[u8]) -> Standing
     requires { ⌜ turned .put .count ≤ length (now output) ⌝ }
     ensures { λ r. ⌜ Settles turned r ⌝ }

@@ -4,8 +4,8 @@
 // before input ends or fails is answered.
 //
 // The inner functions have a `requires`: the sizes of the two pieces, a frame's number that leaves room for those
-// of one more piece, less than a record held, a read left to make. So `main` begins, and so each turn is proved to
-// leave it where it goes on. That a read stays within its piece is a promise of io_streams.
+// of one more piece, less than a record held, a read left to make, and for `written` no more put than its piece has,
+// which `answered` promises. So `main` begins, and so each turn is proved to leave it where it goes on. That a read stays within its piece is a promise of io_streams.
 use io_rest::keep_rest;
 use io_streams::Read;
 use io_streams::complain_of_reads;
@@ -110,7 +110,8 @@ fn answered(got: Read, input: &mut [u8], standing: Standing, output: &mut [u8]) 
     }
 }
 
-// Writes the lines, and answers where the program stands then: it goes on only where there is more to read.
+// Writes the lines, and answers where the program stands then: it goes on only where there is more to read, and the
+// lines could be written.
 fn written(turned: Turned, output: &[u8]) -> Standing
     requires { ⌜ Counts (turned .count) (now output) ⌝ }
     ensures { λ r. ⌜ Settles turned r ⌝ }
