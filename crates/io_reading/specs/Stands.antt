@@ -5,11 +5,11 @@ use lib.Dec.{eqb}
 use Rattle.io_streams.specs.Reads.{isSpent}
 use Rattle.io_reading.specs.declared.Standing.{Standing}
 
--- as it begins: nothing is read, there is more, and nothing has failed
+-- as it begins: nothing is read, and there is more
 abbrev pub atStart : Standing
-atStart = record { place = 0; kept = 0; held = 0; reads = 0; «goes_on» = true; «is_well» = true }
+atStart = record { place = 0; kept = 0; held = 0; reads = 0; «goes_on» = true; «is_well» = false }
 
--- as it ends here, well or not: what was found stays, and nothing more is read
+-- as it ends here, well, that is at the file's end and with nothing failed, or not: what was found stays, and nothing more is read
 abbrev pub endedAs : Bool → Standing → Standing
 endedAs well standing =
     record { place = standing .place; kept = standing .kept; held = standing .held; reads = standing .reads; «goes_on» = false; «is_well» = well }

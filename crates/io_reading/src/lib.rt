@@ -15,8 +15,8 @@ ghost use Rattle.io_reading.specs.Stands.{atStart, endedAs, afterRead, a
 
 // Where a reading stands between two pieces: the place of the next block, how many are kept before it, how
 // many bytes of a block not yet whole are held at the start of the piece, how many reads were made, whether
-// another is to be made, and whether nothing has failed. What `answered` of either reading makes of a read is
-// well and goes on, or is well and has come to the file's end, or is not well and does not go on.
+// another is to be made, and whether all is well: the reading has come to the file's end, and nothing has failed. A
+// reading that goes on, or was cut, is not well.
 pub struct Standing {
     pub place: u64,
     pub kept: u64,
@@ -36,7 +36,7 @@ pub fn begun() -> Standing
         held: 0,
         reads: 0,
         goes_on: true,
-        is_well: true,
+        is_well: false,
     }
 }
 

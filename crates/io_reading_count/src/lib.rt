@@ -39,7 +39,7 @@ fn counted(input: &mut [u8], standing: Standing, read: usize) -> Standing
         held,
         reads: standing.reads,
         goes_on: true,
-        is_well: true,
+        is_well: false,
     }
 }
 

@@ -86,7 +86,7 @@ fn blocks_mended(
             held,
             reads: standing.reads,
             goes_on: true,
-            is_well: true,
+            is_well: false,
         },
         taken,
         is_changed: false,

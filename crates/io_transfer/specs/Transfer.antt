@@ -16,6 +16,10 @@ use Rattle.io_blocks.specs.PutBlocks.{endOf, PutsBlocks}
 use Rattle.io_transfer.specs.declared.Standing.{Standing}
 use Rattle.io_transfer.specs.declared.Turned.{Turned}
 
+-- as a program begins: nothing is read, and there is more
+abbrev pub atStart : Standing
+atStart = record { number = 0; held = 0; reads = 0; «goes_on» = true }
+
 -- how many of the bytes held are known to be whole where input fails: no block of a narration, and the records that were read
 abbrev pub knownBytes : Way → ℕ → ℕ
 knownBytes ToRecords held = 0

@@ -26,7 +26,7 @@ ghost use mathlib.Core.Path.{_≡_};
 ghost use Prim.Native.Nat.{_≤_, _<_};
 ghost use lib.ListN.{length, take};
 ghost use Rattle.io_streams.specs.Reads.{Within, mostReads};
-ghost use Rattle.io_transfer.specs.Transfer.{knownBytes, TakesPiece, TakesLast, AnswersRead, Settles, afterRead, Turns};
+ghost use Rattle.io_transfer.specs.Transfer.{atStart, knownBytes, TakesPiece, TakesLast, AnswersRead, Settles, afterRead, Turns};
 
 // Where a program stands between two reads: the next block's number, how many bytes of a block not yet
 // whole are held at the start of the piece, how many reads were made, and whether another is to be made.
@@ -41,6 +41,18 @@ struct Standing {
 struct Turned {
     standing: Standing,
     put: Done,
+}
+
+// A program begins.
+fn begun() -> Standing
+    ensures { λ r. ⌜ r ≡ atStart ⌝ }
+{
+    Standing {
+        number: 0,
+        held: 0,
+        reads: 0,
+        goes_on: true,
+    }
 }
 
 // How many of the bytes held are known to be whole where input fails: a block cut short is none, and of
@@ -167,12 +179,7 @@ fn turn(way: Way, input: &mut [u8], standing: Standing, output: &mut [u8]) -> St
 pub fn transfer(way: Way) {
     let mut input = [0u8; 61440];
     let mut output = [0u8; 66048];
-    let mut standing = Standing {
-        number: 0,
-        held: 0,
-        reads: 0,
-        goes_on: true,
-    };
+    let mut standing = begun();
     while standing.goes_on {
         standing = turn(way, &mut input, standing, &mut output);
     }

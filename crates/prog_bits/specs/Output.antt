@@ -28,6 +28,10 @@ pub record PutsLines (frame : ℕ) (bytes : List ℕ) (records count : ℕ) (lef
   pub counts : Counts count left
   pub lines : take count left ≡ linesText frame bytes records
 
+-- as the program begins: nothing is read, and there is more
+abbrev pub atStart : Standing
+atStart = record { frame = 0; held = 0; reads = 0; «goes_on» = true }
+
 -- what is left over where input ends is a record cut short, and nothing is said of none
 abbrev pub restText : ℕ → List ℕ → List ℕ
 restText frame [] = []

@@ -18,7 +18,7 @@ ghost use Prim.Native.Nat.{_+_, _*_, _≤_, _<_};
 ghost use lib.ListN.{length, take};
 ghost use Rattle.io.specs.Counts.{Counts};
 ghost use Rattle.io_streams.specs.Reads.{Within, mostReads};
-ghost use Rattle.prog_bits.specs.Output.{PutsLines, AnswersPiece, AnswersRest, AnswersRead, Settles, afterRead, Turns};
+ghost use Rattle.prog_bits.specs.Output.{atStart, PutsLines, AnswersPiece, AnswersRest, AnswersRead, Settles, afterRead, Turns};
 
 // Where the program stands between two reads: the next frame's number, how many bytes of a record not
 // yet whole are held at the start of the piece, how many reads were made, and whether another is to be made.
@@ -33,6 +33,18 @@ struct Standing {
 struct Turned {
     standing: Standing,
     count: usize,
+}
+
+// The program begins.
+fn begun() -> Standing
+    ensures { λ r. ⌜ r ≡ atStart ⌝ }
+{
+    Standing {
+        frame: 0,
+        held: 0,
+        reads: 0,
+        goes_on: true,
+    }
 }
 
 // The lines of the first `count` records of some bytes, from a frame's number on. No line is longer
@@ -167,12 +179,7 @@ fn turn(input: &mut [u8], standing: Standing, output: &mut [u8]) -> Standing
 fn main() {
     let mut input = [0u8; 16000];
     let mut output = [0u8; 65536];
-    let mut standing = Standing {
-        frame: 0,
-        held: 0,
-        reads: 0,
-        goes_on: true,
-    };
+    let mut standing = begun();
     while standing.goes_on {
         standing = turn(&mut input, standing, &mut output);
     }

@@ -41,7 +41,7 @@ returns c =
     let called = rest .before .before in
     let g = called .before .before .before .before .args in
     record {
-      passes = record { place = refl; keeps = rest .keep-rest .ensures; reads = refl; on = refl; well = refl };
+      passes = record { place = refl; keeps = rest .keep-rest .ensures; reads = refl; on = refl; unended = refl };
       kept = ap (λ (n : ℕ). g .standing .kept + n) (kept called);
     }
 

@@ -43,7 +43,7 @@ returns c =
     let kept = c .before .before .before in
     let called = kept .before .before .before .before .before .before in
     record {
-      passes = record { place = refl; keeps = kept .keep-rest .ensures; reads = refl; on = refl; well = refl };
+      passes = record { place = refl; keeps = kept .keep-rest .ensures; reads = refl; on = refl; unended = refl };
       rescues = done called;
       kept = refl;
       same = refl;

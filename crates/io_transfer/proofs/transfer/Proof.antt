@@ -1,11 +1,12 @@
 -- It ends: where it goes on a read is left to make.
-use mathlib.Core.Path.{_≡_}
+use mathlib.Core.Path.{_≡_, ap}
 use mathlib.Core.Bool.{true}
 use Prim.Native.Nat.{_-_, _≤_, _<_}
 use native.Mathlib.Omega.{arith}
 use borrow.Author.Needs.{needs}
 use lib.ListN.{length}
 use Rattle.io_streams.specs.Reads.{mostReads}
+use Rattle.io_transfer.specs.declared.Standing.{Standing}
 use Rattle.io_transfer.proofs.transfer.Statement.{statement}
 use Rattle.io_transfer.proofs.transfer.Tie as tie
 
@@ -17,7 +18,10 @@ abbrev μ-loop : tie.MeasureT-loop
 μ-loop way input₀ output₀ standing₀ input output standing = mostReads - standing .reads
 
 loop-holds : tie.Need-loop-holds Inv-loop μ-loop
-loop-holds c = (omega arith, omega arith, omega arith, omega arith, λ on. omega arith)
+loop-holds c =
+    let begins = c .begun .ensures in
+    let reads = ap (λ (s : Standing). s .reads) begins in
+    (omega arith, omega arith, omega (arith, ap (λ (s : Standing). s .number) begins), omega (arith, ap (λ (s : Standing). s .held) begins), λ on. omega (arith, reads))
 
 -- a read is left to make
 left : (c : tie.In-loop Inv-loop μ-loop) → c .before .loop .standing .reads < mostReads
@@ -45,6 +49,7 @@ transfer-spec =
     (tie.spec
     Inv-loop
     μ-loop
+    (λ c κs. search needs)
     loop-holds
     (λ c. search needs)
     (λ c. search needs)
