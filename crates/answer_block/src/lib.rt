@@ -8,8 +8,8 @@ ghost use Rattle.block_check.specs.Told.{blockSays, countSaid};
 ghost use Rattle.block_kept.specs.Kept.{rescueSays};
 ghost use Rattle.answer_block.specs.BlockAnswers.{blockFor, rescueFor};
 
-// What a call on a block answers. Refusal 0 says that it is accepted, and any other is request C-11's
-// number. Records are how many the block holds, and 0 of a refused call.
+// What a call on a block answers. Refusal 0 says that it is accepted, and any other is the
+// refusal's number. Records are how many the block holds, and 0 of a refused call.
 #[repr(C)]
 pub struct BlockTold {
     pub refusal: u16,
@@ -34,8 +34,8 @@ pub fn block_told(answer: BlockAnswer) -> BlockTold
     }
 }
 
-// What a call that rescues a block answers. Refusal 0 says that it is accepted, and any other is request
-// C-11's number. The number is the one that stood in a block that is kept, and 0 of a refused call.
+// What a call that rescues a block answers. Refusal 0 says that it is accepted, and any other is the
+// refusal's number. The number is the one that stood in a block that is kept, and 0 of a refused call.
 #[repr(C)]
 pub struct RescueTold {
     pub refusal: u16,

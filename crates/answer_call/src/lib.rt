@@ -11,7 +11,7 @@ ghost use Rattle.check_line.specs.LineChecks.{lineSays};
 ghost use Rattle.call_restart.specs.Restart.{lineAnswerSays};
 ghost use Rattle.answer_call.specs.Answers.{answerFor};
 
-// What a call answers. Refusal 0 says that it is accepted, and any other is the documents' number.
+// What a call answers. Refusal 0 says that it is accepted, and any other is the refusal's number.
 // Place and found are those of refusals 6 and 7, and 0 else. Bits are those of an accepted cost, and
 // 0 else.
 #[repr(C)]

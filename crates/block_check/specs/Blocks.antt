@@ -1,4 +1,4 @@
--- Request C-11: what reading a block of 512 bytes and writing one give or refuse.
+-- docs/RULES.md, "Block files (C-11)": what reading a block of 512 bytes and writing one give or refuse.
 use mathlib.Core.Bool.{_&&_, _||_, not}
 use mathlib.Core.List.{List, [], _∷_}
 use Prim.Native.Nat.{ℕ}

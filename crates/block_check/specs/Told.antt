@@ -1,4 +1,4 @@
--- What an answer on a block says, in the paper's numbers.
+-- What an answer on a block says, in the numbers of docs/RULES.md.
 use Prim.Native.Nat.{ℕ}
 use Rattle.check_verdicts.specs.Verdicts.{Fault, numbered, Verdict, accepted, refused, unlessRefused}
 use Rattle.block_check.specs.declared.check.BlockRefusal.{BlockRefusal}
@@ -6,7 +6,7 @@ use Rattle.block_check.specs.declared.check.BlockRefusal.the-variants.{L
 use Rattle.block_check.specs.declared.check.BlockAnswer.{BlockAnswer}
 use Rattle.block_check.specs.declared.check.BlockAnswer.the-variants.{Records, Refused}
 
--- the paper's number of each refusal
+-- the number of each refusal
 abbrev pub blockFault : BlockRefusal → Fault
 blockFault Length = numbered 9
 blockFault Sums = numbered 10

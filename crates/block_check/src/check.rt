@@ -13,7 +13,7 @@ ghost use Rattle.block_parts.specs.Parts.{countOf, countIn, recordsIn, soundRec
 ghost use Rattle.block_check.specs.Blocks.{blockVerdict, readVerdict};
 ghost use Rattle.block_check.specs.Told.{blockFault, blockSays};
 
-// Why a block is refused, in the order of request C-11's numbers 9 to 12: a short block, or one too many;
+// Why a block is refused, in the order of the numbers 9 to 12: a short block, or one too many;
 // its sums; its header, number or fill; a record that is not sound.
 pub enum BlockRefusal {
     Length,
@@ -23,7 +23,7 @@ pub enum BlockRefusal {
 }
 
 impl BlockRefusal {
-    // Request C-11's number.
+    // The number of docs/RULES.md, "Block files (C-11)".
     pub fn number(self) -> u8
         ensures { λ r. ⌜ r ≡ numberOf (blockFault self) ⌝ }
     {

@@ -1,4 +1,4 @@
--- Request C-16, one block: when it is kept, and what an answer says of it. The parts of a block are those of C-11, by their names.
+-- docs/RULES.md, "Rescue (C-16)", one block: when it is kept, and what an answer says of it. The parts of a block are those of `Parts`, by their names.
 use mathlib.Core.Bool.{_&&_, not}
 use mathlib.Core.List.{List}
 use Prim.Native.Nat.{ℕ}
@@ -10,7 +10,7 @@ use Rattle.block_check.specs.Told.{blockFault}
 use Rattle.block_kept.specs.declared.RescueAnswer.{RescueAnswer}
 use Rattle.block_kept.specs.declared.RescueAnswer.the-variants.{Kept, Refused}
 
--- "keeps a block exactly if its sums, header apart from its number, fill and records are right"; the first fault stands, in C-11's numbers and order.
+-- a block is kept exactly if its sums, its header apart from the number, its fill and its records are right; the first fault stands, in the numbers and the order of a read.
 -- 9: fewer bytes than a block. 10: sums. 11: header, its number apart, or fill. 12: a record that is not sound
 unfoldable pub keptChecks : {A : Type 0} → List ℕ → Verdict A → Verdict A
 keptChecks block next =

@@ -1,4 +1,4 @@
--- Request C-11, "every u16 little end first": a number below 65,536 as two bytes, and two bytes as a number.
+-- docs/RULES.md, "Block files (C-11)", each u16 low byte first: a number below 65,536 as two bytes, and two bytes as a number.
 use mathlib.Core.List.{List, [], _∷_}
 use Prim.Native.Nat.{ℕ, suc, _+_, _*_, _/_, _%_}
 use lib.ListN.{getD}

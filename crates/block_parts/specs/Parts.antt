@@ -1,4 +1,4 @@
--- Request C-11, a block of 512 bytes: number, header apart from the number, records, fill and sums, each as it is written and as it is read, and
+-- docs/RULES.md, "Block files (C-11)", a block of 512 bytes: number, header apart from the number, records, fill and sums, each as it is written and as it is read, and
 -- what is right of each.
 use mathlib.Core.Bool.{Bool, _&&_}
 use mathlib.Core.List.{List, [], _∷_, _++_}

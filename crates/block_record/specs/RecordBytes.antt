@@ -1,4 +1,4 @@
--- Request C-11, "A record holds": what stands where in its 24 bytes, and when it is sound.
+-- docs/RULES.md, "Block files (C-11)", a record: what stands where in its 24 bytes, and when it is sound.
 use mathlib.Core.Bool.{Bool, false, _&&_}
 use mathlib.Core.List.{List}
 use Prim.Native.Nat.{ℕ}
@@ -26,7 +26,7 @@ recordedOf bytes =
       bits = wordAt 22 bytes;
     }
 
--- what it costs, or the first of document 01's checks 1, 2 and 4 to 8 that it breaks
+-- what it costs, or the first of checks 1, 2 and 4 to 8 that it breaks
 abbrev pub recordedCost : Recorded → Verdict ℕ
 recordedCost kept = codeChecks (kept .duration) (kept .bandwidth) (costOfFields (kept .side))
 

@@ -1,4 +1,4 @@
-// A record of a narration: 24 bytes, in memory as in a file. It is sound if document 01's limits hold of
+// A record of a narration: 24 bytes, in memory as in a file. It is sound if the limits of docs/RULES.md hold of
 // its numbers and its bits are what its side data cost, by the checks that the calls have.
 use block_numbers::word_of;
 use check_side::SideAnswer;

@@ -1,4 +1,4 @@
--- Request C-16, one block: what it becomes if it is kept, and what a call on it promises. The parts of a block are those of C-11, by their names.
+-- docs/RULES.md, "Rescue (C-16)", one block: what it becomes if it is kept, and what a call on it promises. The parts of a block are those of `Parts`, by their names.
 use mathlib.Core.Path.{_≡_}
 use mathlib.Core.List.{List, _++_}
 use Prim.Native.Nat.{ℕ}

@@ -1,4 +1,4 @@
--- Document 01, "Band rows", "The decoder asks for a band and gets back that part of the caller's own spectrum".
+-- docs/RULES.md, "Band rows": the band that a caller asks for, as that part of its own spectrum.
 use mathlib.Core.Path.{_≡_}
 use mathlib.Core.List.{List}
 use Prim.Native.Nat.{ℕ, _+_, _-_, _*_}

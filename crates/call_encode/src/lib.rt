@@ -33,7 +33,7 @@ pub struct Encoded {
     pub side: SideData,
 }
 
-// Encodes a spectrum in place. Any numbers may be given: a frame that document 01 refuses is refused
+// Encodes a spectrum in place. Any numbers may be given: a frame that docs/RULES.md refuses is refused
 // by number, leaves every line as it was, and has no side data. `flag` is the near-Nyquist flag.
 pub fn encode(duration: u8, bandwidth: u8, nbits: u64, flag: bool, lines: &mut [f32]) -> Encoded
     ensures { λ r. ⌜ Encodes (encodeVerdict duration bandwidth nbits flag (now (lines .entry))) (rowOf (durationOf duration) bandwidth) (now (lines .entry)) (now (lines .exit)) r ⌝ }

@@ -1,4 +1,4 @@
--- Request C-22, the customer's sentence: a frame is mended from line n on. The old frame was saved before that line, and the new one is restarted there.
+-- docs/RULES.md, "Restart at a line (C-22)": a frame is mended from line n on. The old frame was saved before that line, and the new one is restarted there.
 use mathlib.Core.Path.{_≡_}
 use mathlib.Core.List.{List}
 use Prim.Native.Nat.{ℕ, _*_, _<_}

@@ -1,4 +1,4 @@
--- Request C-22: the decoder from a spectrum into an output, split at a line.
+-- docs/RULES.md, "Restart at a line (C-22)": the decoder from a spectrum into an output, split at a line.
 use mathlib.Core.Path.{_≡_}
 use mathlib.Core.List.{List, _++_}
 use Prim.Native.Nat.{ℕ}

@@ -1,5 +1,5 @@
 -- The coefficients that the decoder takes for the indices that the encoder reports are the coefficients that the encoder reports. So the decode call
--- takes all side data that the encode call reports as they were meant. C-24, that the decoder undoes the encoder, can stand on this.
+-- takes all side data that the encode call reports as they were meant. That the decoder undoes the encoder can rest on this.
 use mathlib.Core.Path.{_≡_, sym, ap, _∙_}
 use mathlib.Core.Bool.{Bool, true, false, cond}
 use mathlib.Core.List.{List, _++_}

@@ -1,4 +1,4 @@
--- Document 01, "Refusal numbers": what every decode call checks, refusals 1 to 7; and what it is given, a frame with its side data, as one thing.
+-- docs/RULES.md, "Refusal numbers": what every decode call checks, refusals 1 to 7; and what it is given, a frame with its side data, as one thing.
 use mathlib.Core.List.{List}
 use Prim.Native.Nat.{ℕ}
 use lib.Ieee.{Float}

@@ -1,4 +1,4 @@
--- Document 01, "Refusal numbers": checks 1 to 3 of a frame.
+-- docs/RULES.md, "Refusal numbers": checks 1 to 3 of a frame.
 use mathlib.Core.Bool.{_||_}
 use Prim.Native.Nat.{ℕ}
 use lib.Dec.{ltb}

@@ -1,4 +1,4 @@
--- Document 01, "Refusal numbers", and request C-22: what a call at a line checks, 16 and 17 after the refusals 1 to 7 of every decode call.
+-- docs/RULES.md, "Refusal numbers" and "Restart at a line (C-22)": what a call at a line checks, 16 and 17 after the refusals 1 to 7 of every decode call.
 use mathlib.Core.Bool.{_||_, not}
 use mathlib.Core.List.{List}
 use Prim.Native.Nat.{ℕ}

@@ -19,7 +19,7 @@ place κs a x y s t p q = itself p q
 found : Determined 0 found-kinds.ps found-kinds.r found-reads.Post
 found κs a x y s t p q = itself p q
 
--- an answer that says the paper's numbers, back from its verdict
+-- an answer that says the refusals' numbers, back from its verdict
 abbrev pub answerBack : {A R : Type 0} → (A → R) → (Refusal → R) → Verdict A → R
 answerBack accept refuse (accepted a) = accept a
 answerBack accept refuse (refused fault) = refuse (refusalBack fault)

@@ -1,9 +1,9 @@
--- Document 01, "Refusal numbers": the eight refusals, in the paper's numbers.
+-- docs/RULES.md, "Refusal numbers": the eight refusals by number.
 use Rattle.check_verdicts.specs.Verdicts.{Fault, numbered, placed}
 use Rattle.check_refusals.specs.declared.Refusal.{Refusal}
 use Rattle.check_refusals.specs.declared.Refusal.the-variants.{Duration, Bandwidth, SpectrumLength, ListLength, FilterCount, Order, Index, Weighting}
 
--- the paper's number, place and found value of each refusal
+-- the number, place and found value of each refusal
 abbrev pub says : Refusal → Fault
 says Duration = numbered 1
 says Bandwidth = numbered 2

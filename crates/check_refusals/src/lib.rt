@@ -1,9 +1,9 @@
-// The eight refusals of document 01, for every call on a spectrum or its side data.
+// The eight refusals of docs/RULES.md, "Refusal numbers", for every call on a spectrum or its side data.
 ghost use mathlib.Core.Path.{_≡_};
 ghost use Rattle.check_verdicts.specs.Verdicts.{numberOf, placeOf, foundOf};
 ghost use Rattle.check_refusals.specs.Refusals.{says};
 
-// Why a call is refused, in the order of document 01's numbers 1 to 8. A refusal of an order or an
+// Why a call is refused, in the order of the numbers 1 to 8. A refusal of an order or an
 // index holds the lowest bad place and the number found there.
 pub enum Refusal {
     Duration,
@@ -17,7 +17,7 @@ pub enum Refusal {
 }
 
 impl Refusal {
-    // Document 01's number.
+    // The refusal's number.
     pub fn number(self) -> u8
         ensures { λ r. ⌜ r ≡ numberOf (says self) ⌝ }
     {

@@ -1,4 +1,4 @@
--- Document 01, "Refusal numbers": the checks that decide 1 and 2, of a frame's codes, and 4 to 7, of side data.
+-- docs/RULES.md, "Refusal numbers": the checks that decide 1 and 2, of a frame's codes, and 4 to 7, of side data.
 use mathlib.Core.Path.{_≡_}
 use mathlib.Core.Bool.{_||_, not}
 use mathlib.Core.List.{List}

@@ -1,4 +1,4 @@
--- Document 01, "Refusal numbers": what a call answers, in the paper's numbers, and checks that run in number order. A refusal of any kind is a fault, so
+-- docs/RULES.md, "Refusal numbers": what a call answers, by number, and checks that run in number order. A refusal of any kind is a fault, so
 -- what is said here holds of calls on spectra, on blocks and on files.
 use mathlib.Core.Bool.{Bool, cond}
 use Prim.Native.Nat.{ℕ}

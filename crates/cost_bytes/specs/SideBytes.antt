@@ -1,4 +1,4 @@
--- Document 01, "The program reads 20-byte records": weighting, filter count, two orders, sixteen indices. The one place that says where each stands,
+-- docs/RULES.md, "The bits program": weighting, filter count, two orders, sixteen indices. The one place that says where each stands,
 -- for what is read and for what is written.
 use mathlib.Core.Bool.{cond}
 use mathlib.Core.List.{List, _∷_, _++_}

@@ -1,4 +1,4 @@
--- Any two results that a contract allows for one input coincide: the law of `law_results`, cited for `cost`. Its answer says the paper's numbers,
+-- Any two results that a contract allows for one input coincide: the law of `law_results`, cited for `cost`. Its answer says the refusals' numbers,
 -- and an answer is found again from what it says.
 use mathlib.Core.Path.{_≡_, refl, ap}
 use Rattle.check_refusals.proofs.Eight.{of-eight}

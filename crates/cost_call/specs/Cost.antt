@@ -1,4 +1,4 @@
--- Document 01, "Cost": what the side data of a frame costs in bits, and the answer of the cost call.
+-- docs/RULES.md, "Cost": what the side data of a frame costs in bits, and the answer of the cost call.
 use mathlib.Core.Path.{_≡_}
 use mathlib.Core.List.{List}
 use Prim.Native.Nat.{ℕ, _≤_}

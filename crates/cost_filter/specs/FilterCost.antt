@@ -1,4 +1,4 @@
--- Document 01, "Cost": what one filter costs, in 2048ths of a bit and in bits.
+-- docs/RULES.md, "Cost": what one filter costs, in 2048ths of a bit and in bits.
 use mathlib.Core.Path.{_≡_}
 use mathlib.Core.List.{List}
 use Prim.Native.Nat.{ℕ, _+_, _/_, _≤_}

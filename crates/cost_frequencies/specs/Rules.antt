@@ -1,4 +1,4 @@
--- The rules that document 01 states of T's frequencies, each one test that the checker computes over whole tables.
+-- docs/RULES.md, "Cost": the rules of T's frequencies, each one test that the checker computes over whole tables.
 use mathlib.Core.Path.{_≡_, refl}
 use mathlib.Core.Bool.{Bool, true, false, _&&_}
 use mathlib.Core.List.{List, [], _∷_}

@@ -1,4 +1,4 @@
--- What the bounds of document 01 (84 bits a filter, 168 a call) rest on of T's costs, each one test that the checker computes over a whole table.
+-- What the bounds of docs/RULES.md, "Cost" (84 bits a filter, 168 a call) rest on of T's costs, each one test that the checker computes over a whole table.
 use mathlib.Core.Path.{_≡_, refl}
 use mathlib.Core.Bool.{Bool, true, _&&_}
 use mathlib.Core.List.{List, [], _∷_}

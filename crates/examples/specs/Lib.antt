@@ -1,4 +1,4 @@
--- Worked examples: document 01's marked cases, a frame of demand 3, index 0 decoded, a narration of one record, and a refusal of another kind. Nothing rests on them.
+-- Worked examples: the marked cases, a frame of demand 3, index 0 decoded, a narration of one record, and a refusal of another kind. Nothing rests on them.
 pub mod Marked
 pub mod Worked
 pub mod IndexZero

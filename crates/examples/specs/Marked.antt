@@ -1,4 +1,4 @@
--- Document 01's table of marked cases, M1 to M14: one list, and one statement that the checker computes of the definitions.
+-- docs/RULES.md, "Marked cases", M1 to M14: one list, and one statement that the checker computes of the definitions.
 use mathlib.Core.Path.{_≡_, refl}
 use mathlib.Core.Bool.{Bool, true, false}
 use mathlib.Core.List.{List, [], _∷_, _++_}

@@ -1,5 +1,5 @@
--- A narration of one record, computed by the checker from the definitions: document 01's M2 at 10 ms and bandwidth 0, which costs 13 bits, as the first
--- block of a file, and request C-12's two records. The block's first and last bytes are those that C-11's words give by hand: the record's bytes add
+-- A narration of one record, computed by the checker from the definitions: M2 at 10 ms and bandwidth 0, which costs 13 bits, as the first
+-- block of a file, and two records that differ in their first index. The block's first and last bytes are those that docs/RULES.md, "Block files (C-11)", gives by hand: the record's bytes add
 -- up to 144 and the header's to 2, so the plain sum is 146. And the records of the bad day: with order 9 it is not sound, nor is one whose bits are
 -- one off, or one cut short.
 use mathlib.Core.Path.{_≡_, refl}
@@ -35,7 +35,7 @@ pub its-ends : take 8 block ++ drop 506 block ≡ 0 ∷ 0 ∷ 1 ∷ 1 ∷ 0 ∷ 
 unfolding blockBytes bodyBytes sumsOf weightedFrom total
 its-ends = refl
 
--- M2; the two of C-12; order 9; one bit too many; cut short
+-- M2; the two that differ; order 9; one bit too many; cut short
 pub sound-or-not : map soundRecord (m2 ∷ oneFilter 1 1 9 10 ∷ oneFilter 1 1 10 11 ∷ oneFilter 0 9 9 13 ∷ oneFilter 0 1 9 14 ∷ take 23 m2 ∷ [])
     ≡ true ∷ true ∷ true ∷ false ∷ false ∷ false ∷ []
 unfolding soundRecord costOf countedBits counted total filterBits filterCost orderCost indexCosts ofOrder cellsFrom lowestOver sideChecks

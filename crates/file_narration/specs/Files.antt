@@ -1,4 +1,4 @@
--- Request C-11, a file: portions of bytes taken one after the other as blocks numbered from 0, up to the first that is refused. Reading a file takes
+-- docs/RULES.md, "Block files (C-11)", a file: portions of bytes taken one after the other as blocks numbered from 0, up to the first that is refused. Reading a file takes
 -- its portions of 512 bytes, writing records their portions of 480.
 use mathlib.Core.List.{List, [], _∷_, _++_}
 use Prim.Native.Nat.{ℕ, suc}

@@ -1,4 +1,4 @@
--- Request C-16, a file: which of its blocks are kept, the file that they make, and the report. A file is cut into portions of 512 bytes: whole blocks,
+-- docs/RULES.md, "Rescue (C-16)", a file: which of its blocks are kept, the file that they make, and the report. A file is cut into portions of 512 bytes: whole blocks,
 -- and behind them what is left over.
 use mathlib.Core.Bool.{cond}
 use mathlib.Core.List.{List, [], _∷_, _++_}

@@ -1,4 +1,4 @@
--- Document 01, "Index and coefficient": the table of f32 thresholds, the index of a number, the order of a filter's indices.
+-- docs/RULES.md, "Index and coefficient": the table of f32 thresholds, the index of a number, the order of a filter's indices.
 -- The table comes from a sweep of the Rust over every f32 from -1 to 1 (oracle/RESULTS.txt). It is written as bit patterns.
 use mathlib.Core.Bool.{_&&_, cond}
 use mathlib.Core.List.{List, [], _∷_, map}

@@ -1,4 +1,4 @@
--- Document 01, "Index and coefficient": the table of f32 coefficients, and the coefficient of an index.
+-- docs/RULES.md, "Index and coefficient": the table of f32 coefficients, and the coefficient of an index.
 -- The table comes from a sweep of the Rust over every f32 from -1 to 1 (oracle/RESULTS.txt). It is written as bit patterns.
 use mathlib.Core.List.{List, [], _∷_, map}
 use Prim.Native.Nat.{ℕ}

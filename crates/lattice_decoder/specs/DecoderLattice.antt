@@ -1,4 +1,4 @@
--- Document 01, "Lattices", the decoder's: one line, with eight states. Every product, sum and difference is an f32's and rounds once.
+-- docs/RULES.md, "Lattices", the decoder's: one line, with eight states. Every product, sum and difference is an f32's and rounds once.
 use mathlib.Core.List.{List}
 use Prim.Native.Nat.{ℕ, zero, suc}
 use lib.ListN.{getD, set}

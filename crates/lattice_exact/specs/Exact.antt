@@ -1,4 +1,4 @@
--- Document 01, "Lattices", the exact lattice: the encoder's rule over lists of whole numbers, without rounding.
+-- docs/RULES.md, "The exact lattice": the encoder's rule over lists of whole numbers, without rounding.
 -- Lines count units of 2^-149, coefficients 2^-26, results 2^-357. A product with a coefficient counts units 2^26 times finer than its other
 -- factor, so what it is added to is first told in those. So t and b count units of 2^-(149+26k) when k stages are done, and state k always does.
 use mathlib.Core.List.{List}

@@ -1,4 +1,4 @@
--- Document 01, "Lattices", what the two have in common. A lattice takes a filter's coefficients and order, eight states and a line to what the line
+-- docs/RULES.md, "Lattices", what the two have in common. A lattice takes a filter's coefficients and order, eight states and a line to what the line
 -- becomes and the states after it. A filter takes the lines of its band through it, upwards, with the states carried from line to line.
 use mathlib.Core.Path.{_≡_}
 use mathlib.Core.List.{List}

@@ -1,4 +1,4 @@
--- Request C-22: on either side of a line the filters of a row do what the lines of that side decide. Below it: the lines there, and the filters whose
+-- docs/RULES.md, "Restart at a line (C-22)": on either side of a line the filters of a row do what the lines of that side decide. Below it: the lines there, and the filters whose
 -- band begins there, decide what the lines become and the states at the line. From it on: the lines from there on, and the states at the line. And
 -- neither side writes to the other.
 use mathlib.Core.Path.{_≡_, refl, sym, _∙_, ap, subst}

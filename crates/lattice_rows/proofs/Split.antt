@@ -1,4 +1,4 @@
--- Request C-22: filters that act below a line, and then from the line on with the states that they have there, leave what they leave in one go.
+-- docs/RULES.md, "Restart at a line (C-22)": filters that act below a line, and then from the line on with the states that they have there, leave what they leave in one go.
 use mathlib.Core.Path.{_≡_, refl, sym, _∙_, ap}
 use mathlib.Core.Logic.{⊎-elim}
 use mathlib.Core.List.{List, [], _∷_, _++_, append-assoc}

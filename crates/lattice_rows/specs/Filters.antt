@@ -1,4 +1,4 @@
--- Document 01, "Lattices" and "Band rows": filters act on the bands of a row in turn, each on the lines of its own band, and the states carry from
+-- docs/RULES.md, "Lattices" and "Band rows": filters act on the bands of a row in turn, each on the lines of its own band, and the states carry from
 -- the first into the second. One definition for both lattices.
 use mathlib.Core.Path.{_≡_}
 use mathlib.Core.List.{List, [], _∷_}

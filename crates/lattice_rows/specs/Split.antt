@@ -1,4 +1,4 @@
--- Request C-22: a row cut at a line. Below the line a band has those of its lines that stand there, and from the line on it has the others: each of
+-- docs/RULES.md, "Restart at a line (C-22)": a row cut at a line. Below the line a band has those of its lines that stand there, and from the line on it has the others: each of
 -- its four numbers is held on that side, so that a band that lies on the other side whole has no line left.
 use Prim.Native.Nat.{ℕ, _<_, min, max}
 use Rattle.row_bands.specs.declared.Band.{Band}

@@ -1,4 +1,4 @@
--- Document 01, "The program reads 20-byte records": one line each, in order, numbered on; and what comes of a read, and where the program stands then.
+-- docs/RULES.md, "The bits program": one line each, in order, numbered on; and what comes of a read, and where the program stands then.
 use mathlib.Core.Path.{_≡_}
 use mathlib.Core.Bool.{true, false, cond}
 use mathlib.Core.List.{List, [], _∷_, _++_}

@@ -1,6 +1,6 @@
 // Reads 20-byte records of side data from standard input until it ends, and writes a line for each:
 // the bits that it costs, or why it is refused. The lines of the records read are proved to be those
-// of document 01, by what a read gave (`answered`); that they are read and written is tested. What was read
+// of docs/RULES.md, by what a read gave (`answered`); that they are read and written is tested. What was read
 // before input ends or fails is answered.
 //
 // The inner functions have a `requires`: the sizes of the two pieces, a frame's number that leaves room for those

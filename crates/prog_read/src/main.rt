@@ -1,4 +1,4 @@
-// Reads a narration, a block file of request C-11, from standard input, and writes its records of 24
+// Reads a narration, a block file (docs/FORMAT.md), from standard input, and writes its records of 24
 // bytes, up to the first block that is refused. What a block becomes is proved; that it is read and
 // written is tested.
 use io_portion::Way;

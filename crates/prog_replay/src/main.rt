@@ -1,5 +1,5 @@
 // Replays lists of calls with the answers that they must have: the files that its arguments name. The
-// Rust's own answers stand in four of them (`oracle/run lists`), and those of a model of the documents
+// Rust's own answers stand in four of them (`oracle/run lists`), and those of a model of docs/RULES.md
 // in the fifth (`oracle/worked.py`). All lists have one form, which `oracle/README.md` states.
 //
 // Of each list it writes a line for each record that differs, with the first number that does, and

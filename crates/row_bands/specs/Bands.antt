@@ -1,4 +1,4 @@
--- Document 01, "Band rows": the bands of each duration and bandwidth with their cuts, and the lines of a band.
+-- docs/RULES.md, "Band rows": the bands of each duration and bandwidth with their cuts, and the lines of a band.
 use mathlib.Core.List.{List, [], _∷_, _++_}
 use Prim.Native.Nat.{ℕ, zero, suc, _+_, max}
 use lib.ListN.{getD, take, drop}

@@ -1,4 +1,4 @@
--- Document 01, "Band rows" and "Analysis": what each duration keeps as its own, and the weighting of a frame.
+-- docs/RULES.md, "Band rows" and "Analysis": what each duration keeps as its own, and the weighting of a frame.
 use mathlib.Core.Bool.{cond}
 use Prim.Native.Nat.{ℕ, zero, suc}
 use lib.Dec.{ltb}

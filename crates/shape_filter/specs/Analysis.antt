@@ -1,4 +1,4 @@
--- Document 01, "Analysis, one filter": from the lines of a band to its record and its eight reflection coefficients.
+-- docs/RULES.md, "Analysis": from the lines of a band to its record and its eight reflection coefficients.
 use mathlib.Core.Bool.{Bool, cond}
 use mathlib.Core.List.{List}
 use Prim.Native.Nat.{ℕ}

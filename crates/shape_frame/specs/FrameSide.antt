@@ -1,4 +1,4 @@
--- Document 01, "Analysis" and "Index and coefficient": the side data of a frame, a filter for each band of its row.
+-- docs/RULES.md, "Analysis" and "Index and coefficient": the side data of a frame, a filter for each band of its row.
 use mathlib.Core.Bool.{Bool, true, false, cond}
 use mathlib.Core.List.{List}
 use Prim.Native.Nat.{ℕ}

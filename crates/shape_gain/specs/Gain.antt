@@ -1,4 +1,4 @@
--- Document 01, "Analysis": gain, damping and the on/off answer of a filter.
+-- docs/RULES.md, "Analysis": gain, damping and the on/off answer of a filter.
 use mathlib.Core.Bool.{Bool, not, _&&_, cond}
 use Prim.Native.Nat.{ℕ}
 use lib.Dec.{eqb}

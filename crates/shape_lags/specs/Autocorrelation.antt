@@ -1,4 +1,4 @@
--- Document 01, "Analysis": the autocorrelation of a band at lags 0 to 8.
+-- docs/RULES.md, "Analysis": the autocorrelation of a band at lags 0 to 8.
 use mathlib.Core.Bool.{cond}
 use mathlib.Core.List.{List, [], _∷_, map}
 use Prim.Native.Nat.{ℕ}

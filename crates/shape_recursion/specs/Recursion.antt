@@ -1,4 +1,4 @@
--- Document 01, "Analysis": the recursion to order 8 in E's order of operations.
+-- docs/RULES.md, "Analysis": the recursion to order 8 in E's order of operations.
 use mathlib.Core.Bool.{cond}
 use mathlib.Core.List.{List}
 use Prim.Native.Nat.{ℕ, zero, suc, _-_}

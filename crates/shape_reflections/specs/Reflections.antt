@@ -1,4 +1,4 @@
--- Document 01, "Analysis": damped coefficients, and the step-down to reflection coefficients in E's order of operations.
+-- docs/RULES.md, "Analysis": damped coefficients, and the step-down to reflection coefficients in E's order of operations.
 use mathlib.Core.Bool.{_&&_, cond}
 use mathlib.Core.List.{List}
 use Prim.Native.Nat.{ℕ, zero, suc, _-_, _/_, _%_}

@@ -1,4 +1,4 @@
--- Document 01, "Analysis": the sums of a subband at lags 0 to 8.
+-- docs/RULES.md, "Analysis": the sums of a subband at lags 0 to 8.
 use mathlib.Core.List.{List}
 use Prim.Native.Nat.{ℕ, zero, suc, _+_, _-_}
 use lib.ListN.{length}

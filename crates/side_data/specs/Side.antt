@@ -1,4 +1,4 @@
--- Document 01, "Cost" and "Index and coefficient": the side data of a frame as lists, and what it costs.
+-- docs/RULES.md, "Cost" and "Index and coefficient": the side data of a frame as lists, and what it costs.
 use mathlib.Core.List.{List, [], _∷_, _++_}
 use Prim.Native.Nat.{ℕ}
 use lib.ListN.{replicate}

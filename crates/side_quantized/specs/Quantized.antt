@@ -1,4 +1,4 @@
--- Document 01, "Index and coefficient": what becomes of a filter's eight reflection coefficients.
+-- docs/RULES.md, "Index and coefficient": what becomes of a filter's eight reflection coefficients.
 use mathlib.Core.List.{List, map}
 use lib.ListN.{replicate}
 use lib.Ieee.{Float}

@@ -1,4 +1,4 @@
--- Document 01, "Table of marked cases", the program: the line of text for a record.
+-- docs/RULES.md, "The bits program": the line of text for a record.
 use mathlib.Core.List.{List, _++_}
 use Prim.Native.Nat.{ℕ}
 use Rattle.check_verdicts.specs.Verdicts.{numbered, placed, Verdict, accepted, refused}

@@ -1,4 +1,4 @@
--- Request C-11 by the programs: the line of text for a block that is refused.
+-- docs/RULES.md, "Block files (C-11)", by the programs: the line of text for a block that is refused.
 use mathlib.Core.List.{List, _++_}
 use Prim.Native.Nat.{ℕ}
 use Rattle.check_verdicts.specs.Verdicts.{numbered, refused}

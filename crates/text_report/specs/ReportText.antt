@@ -1,4 +1,4 @@
--- Request C-16, the report: a line for each entry.
+-- docs/RULES.md, "Rescue (C-16)", the report: a line for each entry.
 use mathlib.Core.List.{List, [], _∷_, _++_}
 use Prim.Native.Nat.{ℕ}
 use Rattle.check_verdicts.specs.Verdicts.{numberOf}
