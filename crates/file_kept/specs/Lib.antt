@@ -1,2 +1,3 @@
 -- What a reader has to believe of how many blocks are kept.
 pub mod KeptIn
+pub mod RecordCount

@@ -1,7 +1,7 @@
 -- What was put of a piece so far, and what the steps over the rest of it make, are what the steps over all of it make.
 use mathlib.Core.Path.{_≡_, refl, sym, _∙_, ap}
 use mathlib.Core.List.{List, [], _++_, append-assoc, append-nil}
-use Prim.Native.Nat.{ℕ, suc, _+_, _-_, _≤_, _<_, min}
+use Prim.Native.Nat.{ℕ, suc, _+_, _-_, _*_, _≤_, _<_, min}
 use native.Mathlib.Omega.{arith}
 use lib.ListN.{length, take, drop, drop-of-length-le}
 use Rattle.law_lists.specs.Portions.{portions}
@@ -30,6 +30,12 @@ adds-few number portion few = by (rescueVerdict number portion) refl
         let r = rescuable number portion block e in
         let long = kept-long portion _ (r .kept) in
         omega (arith, ap length (r .its), renumbered-length number portion (omega arith))
+
+-- no more than a block, and that where a number is taken
+pub adds-block : (number : ℕ) (portion : List ℕ) → length portion ≤ 512 → (v : Verdict (List ℕ)) → length (becomes v) ≤ length portion
+    → length (becomes v) + 512 * number ≤ 512 * nextBy number v
+adds-block number portion few (refused fault) h = omega arith
+adds-block number portion few (accepted block) h = omega arith
 
 -- a number that is given is one that there is
 pub next-few : (number : ℕ) (portion : List ℕ) → number ≤ 65536 → nextBy number (rescueVerdict number portion) ≤ 65536

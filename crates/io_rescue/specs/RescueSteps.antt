@@ -1,7 +1,7 @@
 -- What is made of a piece of a damaged narration: the steps of `file_rescued`, with the report in its words.
 use mathlib.Core.Path.{_≡_}
 use mathlib.Core.List.{List, []}
-use Prim.Native.Nat.{ℕ, _≤_}
+use Prim.Native.Nat.{ℕ, _+_, _*_, _≤_}
 use lib.ListN.{length, take}
 use Rattle.io.specs.Counts.{Counts}
 use Rattle.law_lists.specs.Portions.{portions}
@@ -39,3 +39,5 @@ pub record RescuesPiece (place number : ℕ) (bytes outLeft reportLeft : List �
   pub report : take (result .lines) reportLeft ≡ reportText (stepsOf place number bytes .report)
   pub next : result .next ≡ stepsOf place number bytes .next
   pub in-range : result .next ≤ 65536
+  -- a block for each number that is taken, and no more bytes
+  pub few-bytes : result .bytes + 512 * number ≤ 512 * result .next

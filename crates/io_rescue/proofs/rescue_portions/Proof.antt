@@ -13,7 +13,7 @@ use Rattle.text_put.proofs.Texts.{all-put, put-few}
 use Rattle.file_rescued.specs.Rescues.{entriesBy}
 use Rattle.text_report.specs.ReportText.{reportText}
 use Rattle.text_report.proofs.Lengths.{entries-at-most}
-use Rattle.io_rescue.proofs.SoFar.{becomes, adds-few, next-few, SoFar, begun, goes-on, all-bytes, all-lines, its-next}
+use Rattle.io_rescue.proofs.SoFar.{becomes, adds-few, adds-block, next-few, SoFar, begun, goes-on, all-bytes, all-lines, its-next}
 use Rattle.io_rescue.proofs.rescue_portions.Statement.{statement}
 use Rattle.io_rescue.proofs.rescue_portions.Tie as tie
 
@@ -21,7 +21,7 @@ abbrev Inv-loop : tie.InvT-loop
 Inv-loop place number bytes out₀ report₀ at₀ line₀ next₀ here₀ from₀ out report at line next here from =
     (length out ≡ length out₀) × (length report ≡ length report₀) × (from ≤ length bytes) × (at ≤ from) × (next ≤ 65536)
     × (from < length bytes → 512 * here ≡ 512 * place + from) × (line + 83 * place ≤ 83 * here) × (here ≤ place + 120)
-    × Counts at out × Counts line report × SoFar place number bytes (take at out) (take line report) here next from
+    × Counts at out × Counts line report × SoFar place number bytes (take at out) (take line report) here next from × (at + 512 * number ≤ 512 * next)
 
 abbrev μ-loop : tie.MeasureT-loop
 μ-loop place number bytes out₀ report₀ at₀ line₀ next₀ here₀ from₀ out report at line next here from = length bytes - from
@@ -30,7 +30,7 @@ loop-holds : tie.Need-loop-holds Inv-loop μ-loop
 loop-holds c =
     let start = c .before .before .before in
     let g = start .args in
-    (refl, refl, omega arith, omega arith, start .pre .numbers, (λ h. omega arith), omega arith, omega arith, (omega arith, refl), (omega arith, refl), begun (g .place) (g .number) (g .bytes .now))
+    (refl, refl, omega arith, omega arith, start .pre .numbers, (λ h. omega arith), omega arith, omega arith, (omega arith, refl), (omega arith, refl), begun (g .place) (g .number) (g .bytes .now), omega arith)
 
 -- the next portion is no longer than a block
 short : (bytes : List ℕ) (from end : ℕ) → from < length bytes → end ≡ min (from + 512) (length bytes)
@@ -70,7 +70,10 @@ loop-again c =
     let given = becomes (rescueVerdict (l .next) portion) in
     let said = reportText (entriesBy (l .here) (l .next) portion (rescueVerdict (l .next) portion)) in
     let s = short bytes (l .from) end (omega arith) ends in
-    let few : length given ≤ end - l .from = omega (arith, adds-few (l .next) portion (omega (arith, s .0, s .1)), s .0) in
+    let small : length portion ≤ 512 = omega (arith, s .0, s .1) in
+    let fewer = adds-few (l .next) portion small in
+    let few : length given ≤ end - l .from = omega (arith, fewer, s .0) in
+    let block = adds-block (l .next) portion small (rescueVerdict (l .next) portion) fewer in
     let one = entries-at-most (l .here) (l .next) portion (rescueVerdict (l .next) portion) in
     let at : 512 * l .here ≡ 512 * g .place + l .from = l .inv .5 (omega arith) in
     let all = all-put given (l .out) (l .at) (taken .bytes) out (done .bytes) (omega (arith, few, ends, l .inv .0, l .inv .3, start .pre .few, start .pre .blocks)) in
@@ -93,6 +96,7 @@ loop-again c =
           (subst (λ (t : List ℕ). SoFar (g .place) (g .number) bytes (take (l .at) (l .out) ++ given) t (l .here + 1) (taken .next) end) (sym lines)
           (subst (λ (h : ℕ). SoFar (g .place) (g .number) bytes (take (l .at) (l .out) ++ given) (take (l .line) (l .report) ++ said) h (taken .next) end) (sym (add-one (l .here)))
           (subst (λ (n : ℕ). SoFar (g .place) (g .number) bytes (take (l .at) (l .out) ++ given) (take (l .line) (l .report) ++ said) (suc (l .here)) n end) (sym next) on))),
+      omega (arith, more, block, next, l .inv .11),
     )
 
 returns : tie.Need-returns Inv-loop μ-loop
@@ -110,6 +114,7 @@ returns c =
       report = all-lines (g .place) (g .number) bytes m t (l .here) (l .next) (l .from) past (l .inv .10);
       next = its-next (g .place) (g .number) bytes m t (l .here) (l .next) (l .from) past (l .inv .10);
       in-range = l .inv .4;
+      few-bytes = l .inv .11;
     }
 
 pub rescue-portions-spec : {M : Type 1} → statement M
