@@ -6,6 +6,7 @@ use io_paths::folder_of;
 use io_paths::part_name;
 use io_streams::complain;
 use io_streams::failed;
+use io_streams::say;
 use text_put::put;
 ghost use mathlib.Core.Path.{_≡_};
 ghost use Rattle.text_put.specs.Text.{Puts};
@@ -43,6 +44,13 @@ pub fn complain_of(name: &[u8], what: &[u8]) {
     let mut text = [0u8; LONGEST];
     let count = put_said(name, what, &mut text);
     complain(&text[..count]);
+}
+
+// Says of a file, by its name, what is no failure.
+fn note(name: &[u8], what: &[u8]) {
+    let mut text = [0u8; LONGEST];
+    let count = put_said(name, what, &mut text);
+    say(&text[..count]);
 }
 
 // Says of a file that it is another than it was when it was first read.
@@ -112,6 +120,20 @@ pub fn make_part(path: &[u8], number: &mut u64) -> i32 {
         tried += 1;
     }
     -1
+}
+
+// Names the parts of files that were there before the part of this number was made beside the place of this file.
+pub fn note_parts(path: &[u8], number: u64) {
+    let mut name = [0u8; LONGEST];
+    let mut old = 0u64;
+    while old < number {
+        let count = part_name(path, old, &mut name);
+        note(
+            &name[..count],
+            b": a rescue that was killed left this file, unless one is running; if none is, remove it\n",
+        );
+        old += 1;
+    }
 }
 
 // What is known of a folder's names reaches the disk, as far as its file system can do that.

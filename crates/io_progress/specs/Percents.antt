@@ -13,6 +13,7 @@ abbrev pub inSecond : Progress → ℕ → Progress
 inSecond progress now =
     record {
       «is_terminal» = progress .«is_terminal»;
+      «is_shared» = progress .«is_shared»;
       size = progress .size;
       began = progress .began;
       second = now;

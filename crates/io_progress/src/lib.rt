@@ -3,6 +3,7 @@
 // How high a percent is, and from when on one is shown, is promised; that it is shown, once a second and at a
 // terminal alone, is tested.
 use libc::STDERR_FILENO;
+use libc::STDOUT_FILENO;
 use text_put::put;
 use text_put::put_numbered;
 ghost use mathlib.Core.Path.{_≡_};
@@ -10,10 +11,12 @@ ghost use Rattle.text_put.specs.Text.{Puts};
 ghost use Rattle.io_progress.specs.Named.{nameText};
 ghost use Rattle.io_progress.specs.Percents.{percentOf, inSecond};
 
-// What is known of a run: whether its progress is shown, how large its file is, the second in which it
-// began and the last that was seen, and whether something stands on the terminal.
+// What is known of a run: whether its progress is shown, whether its report goes to a terminal too, how large
+// its file is, the second in which it began and the last that was seen, and whether something stands on the
+// terminal.
 pub struct Progress {
     pub is_terminal: bool,
+    pub is_shared: bool,
     pub size: u64,
     pub began: u64,
     pub second: u64,
@@ -38,10 +41,12 @@ pub fn seconds() -> u64 {
 // A run that begins with a file.
 pub fn of_file(descriptor: i32) -> Progress {
     let is_terminal = libc::isatty(STDERR_FILENO) == 1;
+    let is_shared = libc::isatty(STDOUT_FILENO) == 1;
     let end = libc::lseek(descriptor, 0, libc::SEEK_END);
     let now = seconds();
     Progress {
         is_terminal,
+        is_shared,
         size: known(end),
         began: now,
         second: now,
@@ -70,6 +75,7 @@ fn in_second(progress: Progress, now: u64) -> Progress
 {
     Progress {
         is_terminal: progress.is_terminal,
+        is_shared: progress.is_shared,
         size: progress.size,
         began: progress.began,
         second: now,
@@ -97,6 +103,14 @@ pub fn shown(progress: Progress, done: u64) -> Progress {
 pub fn erase(progress: Progress) {
     if progress.is_shown {
         io::write_all(STDERR_FILENO, b"\r           \r");
+    }
+}
+
+// The report is about to be written: what stands on the terminal is gone if the report comes there too, and stays
+// if it does not.
+pub fn give_way(progress: Progress) {
+    if progress.is_shared {
+        erase(progress);
     }
 }
 

@@ -1,2 +1,2 @@
 -- The laws that belong to no one function.
-pub mod Mending
+pub mod MendTurns

@@ -1,19 +1,22 @@
--- What the second reading makes of a piece of the damaged file, of what is left over at its end, of what a read gives, and in a turn.
+-- What the second reading makes of a piece of the damaged file, of what is left over at its end, of what a read gives, and in a turn; and what it adds up.
 use mathlib.Core.Path.{_≡_}
-use mathlib.Core.Bool.{Bool, true, false}
+use mathlib.Core.Bool.{Bool, true, false, _||_}
 use mathlib.Core.List.{List}
-use Prim.Native.Nat.{ℕ, _+_, _≤_, _<_}
-use lib.Dec.{leb}
+use Prim.Native.Nat.{ℕ, _+_, _*_, _≤_, _<_}
+use lib.Dec.{leb, ltb}
 use lib.ListN.{take}
 use Rattle.file_kept.specs.KeptIn.{keptIn}
+use Rattle.file_kept.specs.RecordCount.{CountsRecords}
 use Rattle.io_rest.specs.Rest.{wholeBytes}
 use Rattle.io_streams.specs.Reads.{mostReads}
 use Rattle.io_streams.specs.declared.Read.{Read}
 use Rattle.io_streams.specs.declared.Read.the-variants.{Bytes, End, Failed}
 use Rattle.io_rescue.specs.RescueSteps.{RescuesPiece}
+use Rattle.io_reading.specs.Stands as stands
 use Rattle.io_reading.specs.Stands.{endedAs}
 use Rattle.io_reading.specs.Passes.{Passes}
 use Rattle.io_reading.specs.declared.Standing.{Standing}
+use Rattle.io_reading_mend.specs.declared.Mending.{Mending}
 use Rattle.io_reading_mend.specs.declared.Turned.{Turned}
 
 -- the whole blocks among the bytes read
@@ -29,12 +32,14 @@ pub record MendsPiece (standing : Standing) (read : ℕ) (found left output repo
   pub passes : Passes standing read found left (result .standing)
   pub rescues : RescuesPiece (standing .place) (standing .kept) (wholeBlocks read found) output report (result .taken)
   pub kept : result .standing .kept ≡ result .taken .next
+  pub records : CountsRecords (take (result .taken .bytes) output) (result .records)
   pub same : result .«is_changed» ≡ false
 
 -- the reading ends, well, and of what is left over it is to be said that it is
 pub record TellsRest (standing : Standing) (found output report : List ℕ) (result : Turned) : Type 0 where
   pub ends : result .standing ≡ endedAs true standing
   pub rescues : RescuesPiece (standing .place) (standing .kept) (take (standing .held) found) output report (result .taken)
+  pub no-records : result .records ≡ 0
   pub same : result .«is_changed» ≡ false
 
 -- the reading ends, not well, with nothing to write or to say of the file; and whether that is because the file is another than it was
@@ -42,6 +47,7 @@ pub record Breaks (standing : Standing) (isChanged : Bool) (result : Turned) : T
   pub ends : result .standing ≡ endedAs false standing
   pub no-bytes : result .taken .bytes ≡ 0
   pub no-lines : result .taken .lines ≡ 0
+  pub no-records : result .records ≡ 0
   pub changed : result .«is_changed» ≡ isChanged
 
 -- a piece, by whether there are numbers for its blocks: the first reading has seen to it, unless the file is another by now
@@ -57,11 +63,21 @@ MendsRead (Bytes count) standing found left output report result =
 MendsRead End standing found left output report result = TellsRest standing found output report result
 MendsRead Failed standing found left output report result = Breaks standing false result
 
+-- as it begins: no records so far, and no line in the report
+abbrev pub atStart : Mending
+atStart = record { standing = stands.atStart; records = 0; «is_reported» = false }
+
+-- with what has come of a read: its records, and whether it has a line
+abbrev pub tallied : Mending → Turned → Standing → Mending
+tallied mending turned standing =
+    record { standing = standing; records = mending .records + turned .records; «is_reported» = mending .«is_reported» || ltb 0 (turned .taken .lines) }
+
 -- a turn makes one read more, adds the blocks of a piece at most, has a number for every block that is kept, holds less than a block, and where it goes
--- on a read is left to make
-pub record Turns (standing result : Standing) : Type 0 where
-  pub place : result .place ≤ standing .place + 120
-  pub kept : result .kept ≤ 65536
-  pub held : result .held < 512
-  pub reads : result .reads ≡ standing .reads + 1
-  pub left : result .«goes_on» ≡ true → result .reads < mostReads
+-- on a read is left to make; and no kept block has more than 255 records
+pub record Turns (mending result : Mending) : Type 0 where
+  pub place : result .standing .place ≤ mending .standing .place + 120
+  pub kept : result .standing .kept ≤ 65536
+  pub held : result .standing .held < 512
+  pub reads : result .standing .reads ≡ mending .standing .reads + 1
+  pub left : result .standing .«goes_on» ≡ true → result .standing .reads < mostReads
+  pub records : result .records ≤ 255 * result .standing .kept

@@ -1,16 +1,18 @@
-// The second reading of a damaged file, in pieces of a fixed size: it writes what the blocks become, and
-// says the report. What is to be written and said after a read, and where the reading stands then, is promised
-// by what the read gave (`answered`); that it is written and said is not.
+// The second reading of a damaged file, in pieces of a fixed size: it writes what the blocks become, if a file is
+// made of them, and says the report. What is to be written and said after a read, and where the reading stands
+// then, is promised by what the read gave (`answered`); that it is written and said is not.
 //
 // The inner functions have a `requires`: the sizes of the three pieces, a place that leaves room for those of
-// one more, a number that there is or the one after the last, less than a block held, a read left to make, and for
-// `is_put` no more put than its pieces have. So `mend_pass` begins, and so each turn is proved to leave it where it
+// one more, a number that there is or the one after the last, less than a block held, a read left to make, at most
+// 255 records for each block that is kept, and for `is_put` no more put than its pieces have. So `mend_pass` begins, and so each turn is proved to leave it where it
 // goes on. That a read stays within its piece is a promise of io_streams, and what was put is counted by
 // io_rescue's.
 use file_kept::count_kept;
+use file_kept::count_records;
 use io_names::complain_of_change;
 use io_progress::Progress;
 use io_progress::erase;
+use io_progress::give_way;
 use io_progress::put_name;
 use io_progress::shown;
 use io_reading::Standing;
@@ -28,17 +30,26 @@ use io_streams::write;
 use io_streams::write_to;
 ghost use mathlib.Core.Path.{_≡_};
 ghost use mathlib.Core.Bool.{false};
-ghost use Prim.Native.Nat.{_≤_, _<_};
+ghost use Prim.Native.Nat.{_*_, _≤_, _<_};
 ghost use lib.ListN.{length};
 ghost use Rattle.io.specs.Counts.{Counts};
 ghost use Rattle.io_streams.specs.Reads.{Within, mostReads};
-ghost use Rattle.io_reading_mend.specs.SecondReading.{wholeBlocks, hasNumbers, MendsPiece, TellsRest, Breaks, TakesPiece, MendsRead, Turns};
+ghost use Rattle.io_reading_mend.specs.SecondReading.{wholeBlocks, hasNumbers, MendsPiece, TellsRest, Breaks, TakesPiece, MendsRead, atStart, tallied, Turns};
 
-// What comes of a read: where the reading stands then, how much there is to write and to say, and whether the
-// file has turned out to be another than it was.
+// Where the second reading stands: as a reading does, how many records the blocks have that are kept so far, and
+// whether the report has a line.
+pub struct Mending {
+    pub standing: Standing,
+    pub records: u64,
+    pub is_reported: bool,
+}
+
+// What comes of a read: where the reading stands then, how much there is to write and to say, how many records the
+// blocks have that are to be written, and whether the file has turned out to be another than it was.
 struct Turned {
     standing: Standing,
     taken: Taken,
+    records: usize,
     is_changed: bool,
 }
 
@@ -54,6 +65,7 @@ fn broken(standing: Standing, is_changed: bool) -> Turned
             lines: 0,
             next,
         },
+        records: 0,
         is_changed,
     }
 }
@@ -78,6 +90,8 @@ fn blocks_mended(
         output,
         report,
     );
+    let bytes = taken.bytes;
+    let records = count_records(&output[..bytes]);
     let held = keep_rest(input, 512, read);
     Turned {
         standing: Standing {
@@ -89,6 +103,7 @@ fn blocks_mended(
             is_well: false,
         },
         taken,
+        records,
         is_changed: false,
     }
 }
@@ -141,6 +156,7 @@ fn rest_told(input: &[u8], standing: Standing, output: &mut [u8], report: &mut [
     Turned {
         standing: ended(standing, true),
         taken,
+        records: 0,
         is_changed: false,
     }
 }
@@ -164,9 +180,10 @@ fn answered(
     }
 }
 
-// Writes what was put after a read: the blocks to the file that is made, and then what is said of them, to a
-// terminal in the place of how far the run is.
+// Writes what was put after a read: the blocks to the file that is made, if one is, and then what is said of them,
+// to a terminal in the place of how far the run is.
 fn is_put(
+    is_made: bool,
     descriptor: i32,
     name: &[u8],
     output: &[u8],
@@ -180,31 +197,58 @@ fn is_put(
     let lines = taken.lines;
     let mut text = [0u8; 4200];
     let count = put_name(shows, name, &mut text);
-    if !write_to(descriptor, &text[..count], &output[..bytes]) {
-        return false;
+    if is_made {
+        if !write_to(descriptor, &text[..count], &output[..bytes]) {
+            return false;
+        }
     }
     if lines == 0 {
         return true;
     }
-    erase(shows);
+    give_way(shows);
     write(&report[..lines])
+}
+
+// The second reading begins.
+fn started() -> Mending
+    ensures { λ r. ⌜ r ≡ atStart ⌝ }
+{
+    Mending {
+        standing: begun(),
+        records: 0,
+        is_reported: false,
+    }
+}
+
+// What has come of a read is added to what was found before.
+fn added(mending: Mending, turned: Turned, standing: Standing) -> Mending
+    requires { ⌜ (mending .records ≤ 16711680) × (turned .records ≤ 16711680) ⌝ }
+    ensures { λ r. ⌜ r ≡ tallied mending turned standing ⌝ }
+{
+    Mending {
+        standing,
+        records: mending.records + turned.records as u64,
+        is_reported: mending.is_reported || turned.taken.lines > 0,
+    }
 }
 
 // One read, what comes of it, and where the reading stands once that is written.
 fn mend_turn(
     descriptor: i32,
     name: &[u8],
+    is_made: bool,
     made: i32,
     made_name: &[u8],
     input: &mut [u8],
-    standing: Standing,
+    mending: Mending,
     output: &mut [u8],
     report: &mut [u8],
     shows: Progress,
-) -> Standing
-    requires { ⌜ (length (now input) ≡ 61440) × (length (now output) ≡ 61440) × (length (now report) ≡ 9960) × (standing .place < 4611686018427387904) × (standing .kept ≤ 65536) × (standing .held < 512) × (standing .reads < mostReads) ⌝ }
-    ensures { λ r. ⌜ Turns standing r ⌝ }
+) -> Mending
+    requires { ⌜ (length (now input) ≡ 61440) × (length (now output) ≡ 61440) × (length (now report) ≡ 9960) × (mending .standing .place < 4611686018427387904) × (mending .standing .kept ≤ 65536) × (mending .standing .held < 512) × (mending .standing .reads < mostReads) × (mending .records ≤ 255 * mending .standing .kept) ⌝ }
+    ensures { λ r. ⌜ Turns mending r ⌝ }
 {
+    let standing = mending.standing;
     let held = standing.held;
     let got = read_named(descriptor, name, shows, input, held);
     let turned = answered(got, input, standing, output, report);
@@ -214,41 +258,45 @@ fn mend_turn(
     }
     let stands = turned.standing;
     let taken = turned.taken;
-    let is_written = is_put(made, made_name, output, report, taken, shows);
+    let is_written = is_put(is_made, made, made_name, output, report, taken, shows);
     let settled = after_write(stands, is_written);
-    after_read(settled, name, shows)
+    let next = after_read(settled, name, shows);
+    added(mending, turned, next)
 }
 
-// Reads the file to its end, writes what comes of its blocks, and says the report. Answers what
-// `count_pass` does, as it was found now.
+// Reads the file to its end, writes what comes of its blocks, if a file is made of them, and says the report.
+// Answers what `count_pass` does, as it was found now, how many records the kept blocks have, and whether the
+// report has a line.
 pub fn mend_pass(
     descriptor: i32,
     name: &[u8],
+    is_made: bool,
     made: i32,
     made_name: &[u8],
     progress: Progress,
-) -> Standing
-    ensures { λ r. ⌜ r .«goes_on» ≡ false ⌝ }
+) -> Mending
+    ensures { λ r. ⌜ r .standing .«goes_on» ≡ false ⌝ }
 {
     let mut input = [0u8; 61440];
     let mut output = [0u8; 61440];
     let mut report = [0u8; 9960];
-    let mut standing = begun();
+    let mut mending = started();
     let mut shows = progress;
-    while standing.goes_on {
-        standing = mend_turn(
+    while mending.standing.goes_on {
+        mending = mend_turn(
             descriptor,
             name,
+            is_made,
             made,
             made_name,
             &mut input,
-            standing,
+            mending,
             &mut output,
             &mut report,
             shows,
         );
-        shows = shown(shows, progress.size / 512 + standing.place);
+        shows = shown(shows, progress.size / 512 + mending.standing.place);
     }
     erase(shows);
-    standing
+    mending
 }

@@ -33,6 +33,16 @@ pub fn complain(line: &[u8]) {
     io::write_all(LAUNCHER, b"2");
 }
 
+// Says a line on standard error that changes no status.
+pub fn say(line: &[u8]) {
+    io::write_all(STDERR_FILENO, line);
+}
+
+// Writes something else to the launcher than a status, which its program and the launcher agree on.
+pub fn to_launcher(text: &[u8]) {
+    io::write_all(LAUNCHER, text);
+}
+
 // What a read gives, by whether the system's failed and how many bytes that gave.
 fn read_of(is_failed: bool, count: usize) -> Read
     ensures { λ r. ⌜ r ≡ readOf «is_failed» count ⌝ }

@@ -3,46 +3,62 @@
 // of it, is proved; that files are read, written and named is tested.
 //
 // The damaged file is read twice: first its blocks to keep are counted, so that nothing is written where
-// there are too many. Assumes of the launcher (the script `tns`) what io_streams says, and that it gives
-// two arguments.
-use file_kept::are_too_many;
+// there are too many. Assumes of the launcher (the script `tns`) what io_streams says, that it gives two
+// arguments, and that it removes the part of a run that a signal ends: for that it is given the part's number.
 use io_names::complain_of;
-use io_names::complain_of_change;
 use io_names::failed_at;
 use io_names::is_free;
 use io_names::make_part;
 use io_names::named;
+use io_names::note_parts;
 use io_paths::part_name;
 use io_progress::Progress;
 use io_progress::of_file;
+use io_read_twice::first_reading;
+use io_read_twice::put_sum;
+use io_read_twice::second_reading;
 use io_reading::Standing;
-use io_reading::is_same;
-use io_reading_count::count_pass;
-use io_reading_mend::mend_pass;
 use io_streams::failed;
-use io_streams::refuse;
+use io_streams::say;
+use io_streams::to_launcher;
+use text_put::put;
+use text_put::put_numbered;
 
-// Fills the file that is made, and answers whether it is whole.
-fn is_filled(
+// Gives the launcher the number of the part.
+fn begin_part(number: u64) {
+    let mut text = [0u8; 32];
+    let numbered = put_numbered(b"[", number, &mut text, 0);
+    let count = put(b"]", &mut text, numbered);
+    to_launcher(&text[..count]);
+}
+
+// The part is gone: it has its own name, or is removed.
+fn end_part() {
+    to_launcher(b"-");
+}
+
+// Fills the part, gives it its own name, and says what was kept where something was dropped. Answers whether it
+// has that name.
+fn is_made(
     input: i32,
     damaged: &[u8],
     output: i32,
+    part: &[u8],
     mended: &[u8],
     counted: Standing,
     progress: Progress,
 ) -> bool {
-    if libc::lseek(input, 0, libc::SEEK_SET) != 0 {
-        failed_at(damaged);
+    let found = second_reading(input, damaged, true, output, mended, counted, progress);
+    if !found.standing.is_well {
         return false;
     }
-    let filled = mend_pass(input, damaged, output, mended, progress);
-    if !filled.is_well {
+    if !named(output, part, mended) {
         return false;
     }
-    if !is_same(counted, filled) {
-        complain_of_change(damaged);
-        return false;
-    }
+    end_part();
+    let mut text = [0u8; 128];
+    let count = put_sum(found, &mut text);
+    say(&text[..count]);
     true
 }
 
@@ -58,14 +74,22 @@ fn make(input: i32, damaged: &[u8], mended: &[u8], counted: Standing, progress: 
         }
         return;
     }
+    begin_part(number);
+    note_parts(mended, number);
     let mut name = [0u8; 4200];
     let length = part_name(mended, number, &mut name);
-    if is_filled(input, damaged, output, mended, counted, progress) {
-        if named(output, &name[..length], mended) {
-            return;
-        }
+    if !is_made(
+        input,
+        damaged,
+        output,
+        &name[..length],
+        mended,
+        counted,
+        progress,
+    ) {
+        os::unlink(&name[..length]);
+        end_part();
     }
-    os::unlink(&name[..length]);
 }
 
 fn rescue(damaged: &[u8], mended: &[u8]) {
@@ -78,19 +102,10 @@ fn rescue(damaged: &[u8], mended: &[u8]) {
         return;
     }
     let progress = of_file(input);
-    if libc::lseek(input, 0, libc::SEEK_SET) != 0 {
-        failed_at(damaged);
-        return;
+    let counted = first_reading(input, damaged, progress);
+    if counted.is_well {
+        make(input, damaged, mended, counted, progress);
     }
-    let counted = count_pass(input, damaged, progress);
-    if !counted.is_well {
-        return;
-    }
-    if are_too_many(counted.kept) {
-        refuse(b"refused 9\n");
-        return;
-    }
-    make(input, damaged, mended, counted, progress);
 }
 
 fn main() {

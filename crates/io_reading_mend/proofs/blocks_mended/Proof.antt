@@ -1,4 +1,4 @@
--- The whole blocks lie within the piece, and so does what they become within the output. What is left of them is kept.
+-- The whole blocks lie within the piece, and so does what they become within the output, where its records are counted. What is left of them is kept.
 use mathlib.Core.Path.{refl, subst}
 use Prim.Native.Nat.{ℕ}
 use native.Mathlib.Omega.{arith}
@@ -38,14 +38,21 @@ done c =
       lines = omega (arith, start .pre .3);
     }))
 
+slice-aggregate-count-records : tie.Need-slice-aggregate-count-records
+slice-aggregate-count-records c =
+    let called = c .before .before .before .before .before in
+    front (called .rescue-piece .result .bytes) (called .rescue-piece .last .1 .1 .1 .0) (done called .bytes-counted .0)
+
 returns : tie.Need-returns
 returns c =
     let kept = c .before .before .before in
-    let called = kept .before .before .before .before .before .before in
+    let counted = kept .before .before in
+    let called = counted .before .before .before .before .before .before in
     record {
       passes = record { place = refl; keeps = kept .keep-rest .ensures; reads = refl; on = refl; unended = refl };
       rescues = done called;
       kept = refl;
+      records = counted .count-records .ensures;
       same = refl;
     }
 
@@ -56,6 +63,9 @@ blocks-mended-spec =
     (λ c κs. search needs)
     (λ c. search needs)
     slice-aggregate-rescue-piece
+    (λ c κs. search needs)
+    (λ c. done (c .before .before .before .before) .bytes-counted .0)
+    slice-aggregate-count-records
     (λ c κs. search needs)
     (λ c κs. search needs)
     (λ c. search needs)

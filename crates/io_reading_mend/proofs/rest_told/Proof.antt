@@ -30,7 +30,7 @@ done c =
     })
 
 returns : tie.Need-returns
-returns c = record { ends = c .ended .ensures; rescues = done (c .before .before .before .before .before); same = refl }
+returns c = record { ends = c .ended .ensures; rescues = done (c .before .before .before .before .before); no-records = refl; same = refl }
 
 pub rest-told-spec : {M : Type 1} → statement M
 rest-told-spec =

@@ -1,29 +1,32 @@
--- Whatever a read gives: what there is to write and to say lies within its pieces, a turn adds 120 blocks at most and holds less than one, and there is a
--- number for every block that is kept, whether or not it could be written.
+-- Whatever a read gives: what there is to write and to say lies within its pieces, a turn adds 120 blocks at most and holds less than one, there is a
+-- number for every block that is kept, whether or not it could be written, and no such block has more than 255 records.
 use mathlib.Core.Path.{_≡_, refl}
 use mathlib.Core.Bool.{Bool, true, false}
 use mathlib.Core.List.{List}
-use Prim.Native.Nat.{ℕ, _+_, _≤_, _<_}
+use Prim.Native.Nat.{ℕ, _+_, _-_, _*_, _≤_, _<_}
 use native.Mathlib.Omega.{arith}
-use lib.ListN.{length}
+use lib.ListN.{length, take, length-take}
 use Rattle.io.specs.Counts.{Counts}
 use Rattle.io.proofs.Counting.{counts}
 use Rattle.io_rest.proofs.Rests.{rest-below}
 use Rattle.io_streams.specs.Reads.{Within}
+use Rattle.file_kept.proofs.PieceBounds.{records-255}
 use Rattle.io_streams.specs.declared.Read.{Read}
 use Rattle.io_streams.specs.declared.Read.the-variants as read
 use Rattle.io_reading.specs.Stands.{afterWrite, afterRead}
 use Rattle.io_reading.specs.declared.Standing.{Standing}
 use Rattle.io_reading.proofs.Ends.{stays}
-use Rattle.io_reading_mend.specs.SecondReading.{wholeBlocks, hasNumbers, Breaks, TakesPiece, MendsRead, Turns}
+use Rattle.io_reading_mend.specs.SecondReading.{wholeBlocks, hasNumbers, Breaks, TakesPiece, MendsPiece, MendsRead, tallied, Turns}
+use Rattle.io_reading_mend.specs.declared.Mending.{Mending}
 use Rattle.io_reading_mend.specs.declared.Turned.{Turned}
 
 -- what comes of a read, before it is counted
-pub record InRange (standing result : Standing) : Type 0 where
+pub record InRange (standing : Standing) (records : ℕ) (result : Standing) : Type 0 where
   pub place : result .place ≤ standing .place + 120
   pub kept : result .kept ≤ 65536
   pub held : result .held < 512
   pub reads : result .reads ≡ standing .reads
+  pub few : records + 255 * standing .kept ≤ 255 * result .kept
 
 abbrev Counted : List ℕ → List ℕ → Turned → Type 0
 Counted output report turned = Counts (turned .taken .bytes) output × Counts (turned .taken .lines) report
@@ -44,39 +47,52 @@ module _ (standing : Standing) (found left output report : List ℕ) (result : T
   put-counted read.Failed a = none-counted false a
 
   module _ (fits : standing .kept ≤ 65536) (less : standing .held < 512) where
-    broken-in-range : (changed : Bool) → Breaks standing changed result → InRange standing (result .standing)
-    broken-in-range changed b = rw (b .ends) (record { place = omega arith; kept = fits; held = less; reads = refl })
+    broken-in-range : (changed : Bool) → Breaks standing changed result → InRange standing (result .records) (result .standing)
+    broken-in-range changed b = rw (b .ends, b .no-records) (record { place = omega arith; kept = fits; held = less; reads = refl; few = omega arith })
 
-    piece-in-range : (numbers : Bool) (read : ℕ) → read ≤ 61440 → TakesPiece numbers standing read found left output report result → InRange standing (result .standing)
+    -- by how many bytes there are to write
+    records-few : (read : ℕ) → MendsPiece standing read found left output report result → result .records + 255 * standing .kept ≤ 255 * result .standing .kept
+    records-few read a =
+        let blocks = take (result .taken .bytes) output in
+        let more = result .taken .next - standing .kept in
+        let few = records-255 blocks more (result .records) (omega (arith, length-take (result .taken .bytes) output, a .rescues .few-bytes)) (a .records) in
+        omega (arith, few, a .kept, a .rescues .few-bytes)
+
+    piece-in-range : (numbers : Bool) (read : ℕ) → read ≤ 61440 → TakesPiece numbers standing read found left output report result → InRange standing (result .records) (result .standing)
     piece-in-range true read few a =
         record {
           place = omega (arith, a .passes .place);
           kept = omega (arith, a .kept, a .rescues .in-range);
           held = omega (arith, a .passes .keeps .so-many, rest-below 512 read (omega arith));
           reads = a .passes .reads;
+          few = records-few read a;
         }
     piece-in-range false read few a = broken-in-range true a
 
     pub still-in-range : (got : Read) → length found ≤ 61440 → Within (standing .held) (length found) got → MendsRead got standing found left output report result
-        → InRange standing (result .standing)
+        → InRange standing (result .records) (result .standing)
     still-in-range (read.Bytes count) short w a =
         let read = standing .held + count in
         piece-in-range (hasNumbers (standing .kept) (wholeBlocks read found)) read (omega (arith, w .1)) a
-    still-in-range read.End short w a = rw (a .ends) (record { place = omega arith; kept = fits; held = less; reads = refl })
+    still-in-range read.End short w a = rw (a .ends, a .no-records) (record { place = omega arith; kept = fits; held = less; reads = refl; few = omega arith })
     still-in-range read.Failed short w a = broken-in-range false a
 
-pub written-in-range : (written : Bool) (standing stands result : Standing) → result ≡ afterWrite written stands → InRange standing stands → InRange standing result
-written-in-range true standing stands result e h = rw e h
-written-in-range false standing stands result e h = rw e (record { place = h .place; kept = h .kept; held = h .held; reads = h .reads })
+pub written-in-range : (written : Bool) (standing : Standing) (records : ℕ) (stands result : Standing) → result ≡ afterWrite written stands → InRange standing records stands
+    → InRange standing records result
+written-in-range true standing records stands result e h = rw e h
+written-in-range false standing records stands result e h = rw e (record { place = h .place; kept = h .kept; held = h .held; reads = h .reads; few = h .few })
 
--- once the read is counted
-pub turns : (standing stands result : Standing) → InRange standing stands → result ≡ afterRead stands → Turns standing result
-turns standing stands result r e =
-    let s = stays stands result e in
-    record {
+-- once the read is counted, and what came of it is added
+pub turns : (mending : Mending) (turned : Turned) (stands next : Standing) (result : Mending) → mending .records ≤ 255 * mending .standing .kept
+    → InRange (mending .standing) (turned .records) stands → next ≡ afterRead stands → result ≡ tallied mending turned next → Turns mending result
+turns mending turned stands next result fewer r e added =
+    let s = stays stands next e in
+    rw added
+    (record {
       place = omega (arith, s .place, r .place);
       kept = omega (arith, s .kept, r .kept);
       held = omega (arith, s .held, r .held);
       reads = omega (arith, s .reads, r .reads);
       left = s .left;
-    }
+      records = omega (arith, s .kept, r .few);
+    })
