@@ -61,7 +61,7 @@ kept-is block records p e =
     record { bytes = p .bytes; is = omega (arith, p .few, taken .long); taken = taken; verdict = same }
 
 module _ (block : List ℕ) (k : KeptBlock block) where
-  its-length : length (recordsIn block) ≡ 24 * countIn block
+  pub its-length : length (recordsIn block) ≡ 24 * countIn block
   its-length = records-length block (k .taken .long) (few-records block (k .taken .header))
 
   pub holdable : Holdable (recordsIn block)

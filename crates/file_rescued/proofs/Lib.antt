@@ -9,3 +9,4 @@ pub mod Accounted
 pub mod BytesStay
 pub mod AnyNumber
 pub mod NoNine
+pub mod SoundOnly

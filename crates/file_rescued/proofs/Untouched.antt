@@ -70,6 +70,9 @@ sound-in (suc many) number file h few e = elim (decLt 0 (length file)) [
   | no none ↦ sound-empty number file few (omega arith)
 ]
 
+pub all-kept : (file : List ℕ) → reading file .end ≡ whole → keptOf (portions 512 file) ≡ portions 512 file
+all-kept file e = sound-in (length file) 0 file (omega arith) (omega arith) e .all
+
 -- it comes out unchanged, with an empty report
 pub unchanged : (file : List ℕ) → AreBytes file → reading file .end ≡ whole → rescueOf file ≡ accepted (record { mended = file; report = [] })
 unchanged file bytes e =

@@ -1,6 +1,6 @@
 -- The invariant: those counted so far, and those of the blocks from here on, are all; and so for 255 in each block. A block that another follows is
 -- whole, so that no sum wraps.
-use mathlib.Core.Path.{_≡_, refl, sym, _∙_, ap}
+use mathlib.Core.Path.{_≡_, refl, _∙_, ap}
 use mathlib.Core.List.{List, [], _∷_, map}
 use Prim.Native.Nat.{ℕ, suc, _+_, _-_, _*_, _<_, _≤_, min}
 use native.Mathlib.Omega.{arith}

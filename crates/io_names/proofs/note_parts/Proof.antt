@@ -1,7 +1,6 @@
 -- It ends: the numbers of the parts are counted up.
 use mathlib.Core.Path.{_≡_}
 use Prim.Native.Nat.{_-_, _≤_}
-use native.Mathlib.Omega.{arith}
 use borrow.Author.Needs.{needs}
 use lib.ListN.{length}
 use Rattle.io_names.proofs.note_parts.Statement.{statement}

@@ -2,7 +2,6 @@
 use mathlib.Core.Path.{ap}
 use borrow.Author.Needs.{needs}
 use Rattle.io_reading.specs.declared.Standing.{Standing}
-use Rattle.io_reading_mend.specs.declared.Mending.{Mending}
 use Rattle.io_read_twice.proofs.broken_off.Statement.{statement}
 use Rattle.io_read_twice.proofs.broken_off.Tie as tie
 

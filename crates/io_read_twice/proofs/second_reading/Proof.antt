@@ -1,6 +1,6 @@
 -- It is well only where both readings found the same.
-use mathlib.Core.Path.{_≡_, sym, _∙_, ap}
-use mathlib.Core.Bool.{true, false, false≢true}
+use mathlib.Core.Path.{sym, _∙_, ap}
+use mathlib.Core.Bool.{false≢true}
 use borrow.Author.Needs.{needs}
 use borrow.Author.Tests.{not-true}
 use Rattle.io_reading.specs.declared.Standing.{Standing}

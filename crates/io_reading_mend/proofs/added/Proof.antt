@@ -1,5 +1,4 @@
 -- By whether the report had a line before.
-use native.Mathlib.Omega.{arith}
 use borrow.Author.Needs.{needs}
 use Rattle.io_reading_mend.proofs.added.Statement.{statement}
 use Rattle.io_reading_mend.proofs.added.Tie as tie
