@@ -1,6 +1,6 @@
-/* The gate's model of block files (document 02, C-11 and C-16): makes, damages, reads, writes and rescues
- * them, for tests/narrations, tests/rescue, the tests of rust/ and bench/narrations. It is plain, written from
- * the documents, and shares nothing with the library, nor with the one other model, the oracle's
+/* The gate's model of block files: makes, damages, reads, writes and rescues them, for tests/narrations,
+ * tests/rescue, the tests of rust/ and bench/narrations. It is plain C, written from docs/RULES.md, "Block files
+ * (C-11)" and "Rescue (C-16)". It shares nothing with the library, nor with the only other model, the oracle's
  * (oracle/blocks.py).
  *
  *   narration records N [SEED]     writes N sound records, of every kind
@@ -12,14 +12,15 @@
  *                                  of unit U to V, U.P+V adds V to it, and U.sums makes the two sums of a
  *                                  block right; changes are made in turn
  *   narration rescue MENDED        reads a damaged block file, writes what is kept of it to the file MENDED,
- *                                  and the report to standard output; of more than 65,536 blocks to keep it
- *                                  writes nothing, and its status is 9
+ *                                  the report to standard output, and, if a block or stray bytes were
+ *                                  dropped, how much was kept to standard error; of more than 65,536 blocks
+ *                                  to keep it writes nothing, and its status is 9
  *   narration plain read|write     does what the proved programs do, with their checks and nothing proved,
- *                                  in pieces of 64 KiB; refusals and failures are told as they tell them, by
- *                                  a line on standard error, and 1 or 2 on descriptor 3
+ *                                  in pieces of 64 KiB; reports refusals and failures as they do, by a line
+ *                                  on standard error, and 1 or 2 on descriptor 3
  *   narration answer               answers questions one after the other: see there
  *
- * Status 0, or 1 where it cannot write, or 2 if it is called wrongly, or 9 as said of `rescue`. Numbers come
+ * Status 0, or 1 if it cannot write, or 2 if it is called wrongly, or 9 as under `rescue`. Numbers come
  * from xorshift (13, 7, 17), so the same call writes the same bytes. Assumes C99 and POSIX; `write`, `change`
  * and `rescue` hold all that they read.
  */
@@ -273,6 +274,10 @@ static void rescue(uint8_t *bytes, size_t length, const char *mended) {
     if (kept > BLOCKS) exit(9);
     FILE *out = fopen(mended, "wb");
     if (out == NULL || fwrite(bytes, BLOCK, kept, out) != kept || fclose(out) != 0) exit(1);
+    if (BLOCK * kept == length) return;
+    size_t records = 0;
+    for (size_t place = 0; place < kept; place++) records += bytes[BLOCK * place + 2];
+    fprintf(stderr, "kept %zu of %zu blocks, %zu records\n", kept, length / BLOCK, records);
 }
 
 /* Questions and answers, for tests that ask thousands of times. A question is a letter, a number of 8 bytes, a

@@ -11,9 +11,9 @@
  *
  *   silent         nothing was written
  *   plain          no percent was shown
- *   progress N HIGHEST TIMES
+ *   progress N HIGHEST TIMES ERASED
  *                  N different percents were shown, none over 100, and none after a higher one,
- *                  the last being HIGHEST; and so many times one was written
+ *                  the last being HIGHEST; and so many times one was written, and one erased
  *   wrong: WHY     something else, or the cursor ends at another place than a line's start
  *
  * Status 124 if the command does not end within five minutes, 125 if there is no terminal to be had, the
@@ -89,7 +89,7 @@ static void control(int number, int letter) {
 
 /* The percents. */
 
-static long shown, times, last_percent = -1;
+static long shown, times, erased, last_percent = -1;
 
 /* The number before a percent sign, perhaps after a blank. */
 static void take_percent(void) {
@@ -135,6 +135,7 @@ static void put_byte(int byte) {
             column = 0;
         }
         if (byte == '%') take_percent();
+        if (byte == ' ' && cells[row][column] == '%') erased++;
         cells[row][column++] = (char)byte;
     }
 }
@@ -200,7 +201,7 @@ static void tell(const char *name, long long count) {
     else if (shown == 0)
         fprintf(told, "plain\n");
     else
-        fprintf(told, "progress %ld %ld %ld\n", shown, last_percent, times);
+        fprintf(told, "progress %ld %ld %ld %ld\n", shown, last_percent, times, erased);
     if (fclose(told) != 0) end(UNABLE, "the files cannot be written");
 }
 

@@ -58,6 +58,26 @@ pub fn complain_of_change(name: &[u8]) {
     complain_of(name, b": changed while it was read\n");
 }
 
+// Opens a file to be read, and answers its descriptor, or one below 0 where it cannot be; that is said. A caller may
+// have closed descriptors that programs write to, 1 to 3: the file is opened until those are taken, so that what is
+// written there goes into no file that is made.
+pub fn opened(path: &[u8]) -> i32 {
+    let mut taken = 0u64;
+    while taken < 5 {
+        let descriptor = os::open_read(path);
+        if descriptor < 0 {
+            failed_at(path);
+            return -1;
+        }
+        if descriptor > 3 {
+            return descriptor;
+        }
+        taken += 1;
+    }
+    complain_of(path, b": cannot be opened\n");
+    -1
+}
+
 // What is told by whether a link was read there, whether the system said that something else is there, and
 // whether it said that nothing is.
 fn look_of(is_link: bool, is_other: bool, is_none: bool) -> Look

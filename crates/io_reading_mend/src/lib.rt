@@ -26,7 +26,7 @@ use io_rescue::rescue_piece;
 use io_rest::keep_rest;
 use io_rest::whole_bytes;
 use io_streams::Read;
-use io_streams::write;
+use io_streams::write_as;
 use io_streams::write_to;
 ghost use mathlib.Core.Path.{_≡_};
 ghost use mathlib.Core.Bool.{false};
@@ -206,7 +206,8 @@ fn is_put(
         return true;
     }
     give_way(shows);
-    write(&report[..lines])
+    let named = put_name(shows, b"standard output", &mut text);
+    write_as(&text[..named], &report[..lines])
 }
 
 // The second reading begins.

@@ -104,9 +104,14 @@ pub fn write_to(descriptor: i32, what: &[u8], text: &[u8]) -> bool {
     is_written
 }
 
-// The same of standard output.
+// The same of standard output, as `what` names it.
+pub fn write_as(what: &[u8], text: &[u8]) -> bool {
+    write_to(STDOUT_FILENO, what, text)
+}
+
+// The same of standard output, by its own name.
 pub fn write(text: &[u8]) -> bool {
-    write_to(STDOUT_FILENO, b"tns: standard output", text)
+    write_as(b"tns: standard output", text)
 }
 
 // Says a refusal on standard error, and that the launcher's status is 1, or 2 if that cannot be said. It

@@ -11,6 +11,7 @@ use io_names::is_free;
 use io_names::make_part;
 use io_names::named;
 use io_names::note_parts;
+use io_names::opened;
 use io_paths::part_name;
 use io_progress::Progress;
 use io_progress::of_file;
@@ -18,6 +19,7 @@ use io_read_twice::first_reading;
 use io_read_twice::put_sum;
 use io_read_twice::second_reading;
 use io_reading::Standing;
+use io_reading_mend::Mending;
 use io_streams::failed;
 use io_streams::say;
 use io_streams::to_launcher;
@@ -37,8 +39,14 @@ fn end_part() {
     to_launcher(b"-");
 }
 
-// Fills the part, gives it its own name, and says what was kept where something was dropped. Answers whether it
-// has that name.
+// Says how much was kept, where something was dropped.
+fn sum_up(found: Mending) {
+    let mut text = [0u8; 128];
+    let count = put_sum(found, &mut text);
+    say(&text[..count]);
+}
+
+// Fills the part, gives it its own name, and sums up. Answers whether it has that name.
 fn is_made(
     input: i32,
     damaged: &[u8],
@@ -56,9 +64,7 @@ fn is_made(
         return false;
     }
     end_part();
-    let mut text = [0u8; 128];
-    let count = put_sum(found, &mut text);
-    say(&text[..count]);
+    sum_up(found);
     true
 }
 
@@ -96,9 +102,8 @@ fn rescue(damaged: &[u8], mended: &[u8]) {
     if !is_free(mended) {
         return;
     }
-    let input = os::open_read(damaged);
+    let input = opened(damaged);
     if input < 0 {
-        failed_at(damaged);
         return;
     }
     let progress = of_file(input);
