@@ -1,7 +1,7 @@
-/* Calls the port's three functions on blocks (document 02, C-11 and C-16) for port.py, one call for each
- * request on standard input, and writes an answer for each to standard output:
+/* Calls the port's three functions on blocks (docs/RULES.md, "Block files (C-11)" and "Rescue (C-16)") for
+ * port.py, one call for each request on standard input, and writes an answer for each to standard output:
  *
- *   request  a byte, r to read, w to write or m to rescue; the number, 8 bytes; a length, 4 bytes; so many
+ *   request  a byte, r to read, w to write or m to rescue; the number, 8 bytes; a length, 4 bytes; as many
  *            bytes
  *   answer   the refusal, and how many records or after m the old number, 2 bytes each; a byte that is 0 if
  *            nothing was written but what is lent; the lent buffer as it is afterwards, of 480 bytes after r

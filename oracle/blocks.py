@@ -1,17 +1,14 @@
-"""A plain model of block files: writing and reading (C-11) and rescue (C-16).
+"""A plain model of block files: writing, reading and rescue.
 
-It is an oracle: something to hold the proved library's answers against. It was written from
-the customer's documents 01 and 02 alone, and shares nothing with the library or the gate's
-model of the format. Its callers fixed the names, the wording of reasons and report lines, the
-order of the reasons within one refusal, and what single-block calls do with no bytes. The one
-thing it asks of other code is what a record costs in bits, which is document 01's rule and not
-the format's; model.py answers that.
+It is an oracle: something to compare the proved library's answers with. It was written from the
+rules alone (docs/RULES.md, "Block files (C-11)" and "Rescue (C-16)"), and shares nothing with the
+library or the gate's model of the format. Its callers fixed the names, the wording of reasons and
+of what is printed, the order of the reasons within one refusal, and what single-block calls do
+with no bytes. The one thing it takes from other code is what a record costs in bits, which is
+another rule (docs/RULES.md, "Cost"); model.py answers that.
 
 It assumes Python 3, its standard library, model.py beside it, and block numbers that are not
-negative. It knows edition 1 only: of document 02 it models C-11 and C-16 and not C-19.
-
-Words in quotation marks in the comments are the document's. "Decided:" marks a place where the
-document is silent, with the choice made here.
+negative. It knows edition 1 only. "Decided:" in a comment marks a choice that was made here.
 """
 
 import functools
@@ -19,8 +16,8 @@ from operator import mul
 
 import model
 
-# "A block has 512 bytes"; "from byte 8 records of 24 bytes"; "record count 1 to 20";
-# "sums modulo 65521 over bytes 0 to 507"; "Blocks are numbered from 0, at most 65,536".
+# The sizes of a block and of a record, where the records begin and how many there may be; the
+# bytes that are summed, and the sums' modulus; how many blocks a file may have.
 
 BLOCK = 512
 FIRST = 8
@@ -31,15 +28,15 @@ MODULUS = 65521
 MOST_BLOCKS = 65536
 EDITION = 1
 
-# "the sum of (508 - place) times byte": 508 for byte 0, down to 1 for byte 507.
+# What a byte counts in the weighted sum: 508 at place 0, down to 1 at place 507.
 
 WEIGHTS = [508 - place for place in range(SUMMED)]
 
-# "A record holds duration, bandwidth, filter count, weighting, two orders, sixteen indices, and
-# the bit cost as u16." The record has 24 bytes, so each of the 22 numbers before the cost has
-# one. The limits are document 01's refusals 1, 2, 5, 8, 6 and 7; orders and indices count "used
-# or not". Its refusals 3 and 4 speak of lengths, which a record doesn't have.
-# Decided: two filters on a bandwidth with one band are no fault, since 01 allows the count.
+# A record: 22 numbers of one byte, each with the largest that is accepted, and the bits in the last
+# two of its 24 bytes. The limits are those of the refusals 1, 2, 5, 8, 6 and 7 (docs/RULES.md,
+# "Refusal numbers"), for orders and indices that are not used too. The refusals 3 and 4 are about
+# lengths, which a record doesn't have.
+# Decided: two filters on a bandwidth with one band are no fault, since every call accepts the count.
 
 FIELDS = [
     ("duration", 1),
@@ -50,14 +47,14 @@ FIELDS = [
     ("order 1", 8),
 ] + [(f"index {place}", 16) for place in range(16)]
 
-# Refusals: "9 short last block or too many blocks; 10 sums wrong; 11 header, number or fill
-# wrong; 12 a record breaks 01's numeric limits or its bits aren't its cost".
+# Refusals: 9 for a short block or one too many, 10 for a wrong sum, 11 for a wrong header, number or
+# fill byte, 12 for a record that is over a limit or has other bits than its cost.
 
 EXTENT, SUMS, LAYOUT, CONTENT = 9, 10, 11, 12
 SOUND = (0, "")
 
 
-# "every u16 little end first"
+# Every u16 has its low byte first.
 
 def u16(two_bytes):
     return int.from_bytes(two_bytes, "little")
@@ -67,7 +64,7 @@ def bytes_of(number):
     return number.to_bytes(2, "little")
 
 
-# "the last four bytes are two u16 sums": first the plain one, then the weighted one.
+# The last four bytes are the sums: first the plain one, then the weighted one.
 
 def sums_of(block):
     summed = block[:SUMMED]
@@ -79,8 +76,7 @@ def with_sums(block):
     return bytes(block[:SUMMED]) + bytes_of(plain) + bytes_of(weighted)
 
 
-# "number (u16), record count 1 to 20 and edition 1 (one byte each), four zeros; from byte 8
-# records of 24 bytes; then zeros"; then the sums.
+# A block: its number, the record count, the edition and four zeros; the records; fill; the sums.
 
 def sealed(number, records):
     count = len(records) // RECORD
@@ -94,7 +90,7 @@ def pieces(whole, size):
     return (bytes(whole[start:start + size]) for start in range(0, len(whole), size))
 
 
-# One line of a rescue's report. The document says what is reported; the callers fixed the words.
+# One line of a rescue's report. The rules say what is reported; the callers fixed the words.
 
 def report_line(entry):
     kind, *values = entry
@@ -108,6 +104,36 @@ def report_line(entry):
         [count] = values
         return f"{count} stray bytes\n"
     raise ValueError(f"no such report entry: {entry}")
+
+
+# How many records a file of sound blocks has, by the count in each block's header.
+
+def records_counted(file):
+    return sum(file[2::BLOCK])
+
+
+# What a rescue prints besides its report once the new file is made: how much was kept, where a block
+# was dropped or bytes are stray.
+
+def kept_line(file, mended, report):
+    if all(entry[0] == "renumbered" for entry in report):
+        return ""
+    kept, whole = len(mended) // BLOCK, len(file) // BLOCK
+    return f"kept {kept} of {whole} blocks, {records_counted(mended)} records\n"
+
+
+# Before that it names the part files of other rescues. It takes the first free number for its own,
+# and so meets those below. `folder` is MENDED's path up to its last slash, with it; `numbers` are
+# those of the parts.
+
+def part_lines(folder, numbers):
+    own = 0
+    while own in numbers:
+        yield (
+            f"tns: {folder}tns-rescue-{own}.part: a rescue that was killed left this file, unless "
+            f"one is running; if none is, remove it\n"
+        )
+        own += 1
 
 
 class Format:
@@ -125,7 +151,7 @@ class Format:
         orders = (record[4], record[5])
         return model.cost_of(self.tables, weighting, filters, orders, list(record[6:22]))
 
-    # "12 a record breaks 01's numeric limits or its bits aren't its cost"
+    # Whether a record is sound.
     # Decided: the fields are looked at in the record's order, the bits last; a record cut short
     # (only a writer can meet one) is called that whatever is in the part that is there.
 
@@ -148,9 +174,9 @@ class Format:
                 return fault
         return SOUND
 
-    # The faults of a whole block but 9: sums, then "header, number or fill", then records, "in
-    # this order". Without a number it is the rescue's question: "its sums, header apart from its
-    # number, fill and records".
+    # The faults of a whole block except 9, in the order of their numbers: sums; header, number and
+    # fill; records. Without a number it is what a rescue looks at, which keeps a block whatever
+    # number it has.
     # Decided: a stored sum must be the number below 65521 itself; 65521 doesn't stand for 0.
 
     def fault_in(self, block, number=None):
@@ -180,7 +206,7 @@ class Format:
 
     # One block. No bytes are no block, so reading and writing them succeeds with nothing, and
     # bytes past one block are left alone (both fixed by the callers). A number over the last one
-    # is "too many blocks".
+    # is a block too many.
 
     def read_block(self, number, lent):
         block = bytes(lent[:BLOCK])
@@ -206,8 +232,8 @@ class Format:
             return refusal, reason, b""
         return 0, "", sealed(number, records)
 
-    # A kept block is "renumbered" and gets "fresh sums"; all between them stays, so the records
-    # stay "byte for byte". Only a block to be kept can be one too many.
+    # A kept block gets a new number and new sums; the bytes between them stay, and the records with
+    # them. Only a block that is kept can be one too many.
 
     def rescue_block(self, number, lent):
         block = bytes(lent[:BLOCK])
@@ -220,9 +246,9 @@ class Format:
             return EXTENT, "number", b"", 0
         return 0, "", with_sums(bytes_of(number) + block[2:]), u16(block[0:2])
 
-    # Files. "block by block, and the first faulty block stands": so a fault in an early block is
-    # the answer even for a file that is also too long. "A refusal keeps the records of earlier
-    # blocks and gives none of its own block." "A file of no bytes reads as no records."
+    # Files. The first refused block ends a reading, so a fault in an early block is the answer even
+    # for a file that is also too long. The blocks before it give their records, and it gives none. A
+    # file of no bytes has no records.
 
     def read_file(self, file):
         records = []
@@ -233,8 +259,7 @@ class Format:
             records.append(found)
         return b"".join(records), None
 
-    # "The writer puts 20 records in every block but the last"; "The writer writes nothing of a
-    # refused block."
+    # Every block but the last is full, and of a refused block nothing is written.
     # Decided: the blocks before the refused one stay written, as the reader's records do.
 
     def write_file(self, records):
@@ -246,10 +271,9 @@ class Format:
             blocks.append(block)
         return b"".join(blocks), None
 
-    # "Kept blocks stand in their old order, are renumbered from 0". "It reports each dropped
-    # block by place and first fault, each renumbered block by old and new number, and the number
-    # of stray bytes at the end." "More than 65,536 blocks to keep still refuses the call with 9,
-    # before anything is written": then there is no file and no report.
+    # A rescue keeps the order of the blocks and numbers them from 0. It reports the dropped blocks,
+    # the renumbered ones and the stray bytes. With more blocks to keep than there are numbers it is
+    # refused with 9: then there is no file and no report, which is None here.
     # Decided: a place is the block's count from 0 in the damaged file, which may pass 65,535; a
     # fault is the refusal's number, 10 to 12; a kept block whose number was right already, and
     # an end without stray bytes, are not reported, since a sound file has an empty report.

@@ -1,5 +1,6 @@
 #!/usr/bin/env python3
-"""Compares the port's block files with the model of document 02, C-11 (blocks.py).
+"""Compares the port's block files with the model blocks.py (docs/RULES.md, "Block files
+(C-11)").
 
     oracle/compare_blocks.py [--src DIR] --caller PROGRAM --tns PROGRAM
 
@@ -34,7 +35,7 @@ WRITE_RUNS = 1_200
 
 
 def answer(word, refusal, made):
-    """The answer to a call that reads or writes: how many records it tells."""
+    """The answer to a call that reads or writes: it gives how many records there are."""
     records = 0 if refusal else made[2] if word == b"w" and made else len(made) // RECORD
     return port.answer(word, refusal, records, made)
 

@@ -1,6 +1,6 @@
 #!/usr/bin/env python3
-"""Compares the port's rescue of damaged block files with the model of document 02, C-16
-(blocks.py).
+"""Compares the port's rescue of damaged block files with the model blocks.py (docs/RULES.md,
+"Rescue (C-16)").
 
     oracle/compare_rescue.py [--src DIR] --caller PROGRAM --tns PROGRAM --folder DIR
 
@@ -9,12 +9,14 @@ block, one call for each block and for what is left at the end, and blocks of an
 besides; the caller is blocks.c, linked with the library (port.py). Some of the files, long
 ones, and some with as many blocks to keep as there may be, or one more, go through
 `./tns rescue`, in a folder made below DIR: what is compared is what comes out, the report,
-standard error, the status, that the damaged file is as it was, and that nothing else is
-left. What came out of some is rescued once more, and must come out as it is.
+standard error with the line that says how much was kept, the status, that the damaged file
+is as it was, and that nothing else is left. Some run beside part files of other rescues,
+which standard error must name and which must stay. What came out of some is rescued once
+more, and must come out as it is.
 
-It fails if something differs, or if a kind of damage, a fault, one of its reasons or an
-entry of the report did not occur. Numbers are drawn from fixed seeds. Assumes Python 3
-with its standard library.
+It fails if something differs, or if a kind of damage, a fault, one of its reasons, an
+entry of the report or a line on standard error did not occur. Numbers are drawn from
+fixed seeds. Assumes Python 3 with its standard library.
 """
 
 import collections
@@ -39,6 +41,9 @@ OTHER_BLOCKS = 12_000
 RUNS = 2_000
 LONG_RUNS = 80
 AGAIN = 4
+BESIDE = 10
+# The numbers of parts that a run meets; the last two leave a number free below others.
+PARTS = [(0,), (0, 1), (0, 1, 2), (0, 1, 3), (1, 2)]
 
 # What a report can have; `none` is a report that is empty.
 ENTRIES = ["none", "dropped 10", "dropped 11", "dropped 12", "renumbered", "stray"]
@@ -67,7 +72,7 @@ def said(count, names):
 
 def single_bytes(caller, rules):
     """Every place of two sound blocks gets every other value. The answer is not the model's
-    here: the sums tell, and it must be 10."""
+    here: a sum is wrong, and it must be 10."""
     draw, calls = Draw(1601, rules), Calls(caller, "rescue")
     for count in (20, 1):
         block = blocks.sealed(3, draw.records(count))
@@ -84,6 +89,13 @@ def single_bytes(caller, rules):
         f"beyond"
     )
     return calls.differ == 0
+
+
+def records_in(file):
+    """The records of sound blocks, by the count in each header. The line on standard error counts
+    them in the same way, so their number is compared with that count."""
+    found = b"".join(b[blocks.FIRST :][: RECORD * b[2]] for b in blocks.pieces(file, BLOCK))
+    return found if len(found) == RECORD * blocks.records_counted(file) else None
 
 
 def step_calls(calls, rules, name, file, tally):
@@ -104,7 +116,7 @@ def step_calls(calls, rules, name, file, tally):
 
 
 def checked(rules, name, file, kept):
-    """What the model makes of a file; also that it keeps C-16's promises itself."""
+    """What the model makes of a file; also that it keeps the promises of a rescue itself."""
     mended, report = rules.rescue_file(file)
     if mended != kept:
         sys.exit(f"rescue: the model's file is not made of the model's blocks: {name}")
@@ -112,6 +124,8 @@ def checked(rules, name, file, kept):
         sys.exit(f"rescue: the model changes what it has rescued: {name}")
     if not report and mended != file:
         sys.exit(f"rescue: the model changes a file and reports nothing: {name}")
+    if rules.read_file(mended) != (records_in(mended), None):
+        sys.exit(f"rescue: the model counts other records than it reads: {name}")
     return mended, report
 
 
@@ -246,11 +260,15 @@ class Room:
         self.tns, self.folder = tns, pathlib.Path(folder)
         self.damaged, self.mended = self.folder / "damaged", self.folder / "mended"
         self.runs = self.differ = 0
+        self.lines = collections.Counter()
 
-    def rescue(self, name, file, wanted):
+    def rescue(self, name, file, wanted, numbers=()):
         """Rescues a file and compares: what is wanted is what comes out and the report, or None
-        where the call is to be refused."""
+        where the call must be refused. The numbers are those of parts that are there already."""
         self.damaged.write_bytes(file)
+        parts = {f"tns-rescue-{number}.part": b"%d" % number for number in numbers}
+        for part, text in parts.items():
+            (self.folder / part).write_bytes(text)
         os.utime(self.damaged, (1e9, 1e9))
         before = self.damaged.stat()
         run = subprocess.run([self.tns, "rescue", self.damaged, self.mended], capture_output=True)
@@ -260,18 +278,24 @@ class Room:
             result = 1, b"", b"refused 9\n", None
         else:
             mended, report = wanted
-            result = 0, "".join(map(blocks.report_line, report)).encode(), b"", mended
+            kept = blocks.kept_line(file, mended, report)
+            beside = list(blocks.part_lines(f"{self.folder}/", numbers))
+            self.lines.update(kept=bool(kept), part=len(beside))
+            printed = "".join(map(blocks.report_line, report)).encode()
+            result = 0, printed, "".join([*beside, kept]).encode(), mended
         found = self.mended.read_bytes() if "mended" in names else None
+        stay = {part: (self.folder / part).read_bytes() for part in parts if part in names}
         why = [
             what
             for what, is_so in [
                 (f"status {run.returncode}, not {result[0]}", run.returncode != result[0]),
                 (f"a report of {len(run.stdout)} bytes", run.stdout != result[1]),
-                (f"standard error {run.stderr[:100]}", run.stderr != result[2]),
+                (f"standard error {run.stderr[:300]}", run.stderr != result[2]),
                 ("what comes out", found != result[3]),
                 ("the damaged file is another", self.damaged.read_bytes() != file),
                 ("the damaged file was touched", facts(before) != facts(after)),
-                (f"left: {names}", not set(names) <= {"damaged", "mended"}),
+                ("the parts of others", stay != parts),
+                (f"left: {names}", not set(names) <= {"damaged", "mended", *parts}),
             ]
             if is_so
         ]
@@ -327,7 +351,8 @@ def programs(tns, folder, rules, chosen):
             file = long_file(draw)
             chosen.append((f"long file {k}", file, *rules.rescue_file(file)))
         for k, (name, file, mended, report) in enumerate(chosen):
-            room.rescue(name, file, (mended, report))
+            numbers = PARTS[k // BESIDE % len(PARTS)] if k % BESIDE == 3 else ()
+            room.rescue(name, file, (mended, report), numbers)
             entries += kinds_of(report)
             if k % AGAIN == 0:
                 room.rescue(f"{name}, once more", mended, (mended, []))
@@ -340,11 +365,13 @@ def programs(tns, folder, rules, chosen):
             room.rescue(name, file, wanted)
     print(
         f"rescue: ./tns rescue: {len(chosen)} files, {LONG_RUNS} of them of 100 to 700 blocks: "
-        f"entries of the reports: {said(entries, ENTRIES)}; {again} rescued once more; "
+        f"entries of the reports: {said(entries, ENTRIES)}; lines on standard error: "
+        f"{said(room.lines, ['kept', 'part'])}; {again} rescued once more; "
         f"{room.runs - len(chosen) - again} of 65,535 to 65,537 blocks to keep: {refused} refused "
         f"9; {room.differ} differ"
     )
     lacking = [entry for entry in ENTRIES if not entries[entry]] + ["refused 9"] * (not refused)
+    lacking += [f"a line, {line}" for line in ("kept", "part") if not room.lines[line]]
     return good("./tns rescue", lacking, room.differ)
 
 

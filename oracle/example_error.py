@@ -1,7 +1,7 @@
 #!/usr/bin/env python3
-"""The encoder's lattice worked by hand, as it were: the f32 lattice and document
-01's exact lattice, in whole numbers alone. It shares nothing with the port or
-the harness, and rounds each f32 operation by itself.
+"""The encoder's lattice worked by hand, as it were: the f32 lattice and the exact
+lattice (docs/RULES.md, "The exact lattice"), in whole numbers alone. It shares
+nothing with the port or the harness, and rounds each f32 operation by itself.
 
     oracle/example_error.py          works the example that the checker works
     oracle/example_error.py FILE     works the harness's cases again and compares

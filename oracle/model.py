@@ -1,8 +1,7 @@
 #!/usr/bin/env python3
-"""A model of document 01, to be read beside it: its rows, refusals, analysis,
-quantization, cost and lattices, one function for each rule, with what document 02
-adds to the decoder (C-14 and C-22). It is written from the documents and shares
-nothing with the port or the harness.
+"""A model of docs/RULES.md, to be read beside it: its rows, refusals, analysis,
+quantization, cost, lattices and restart at a line, one function for each rule. It is
+written from the rules and shares nothing with the port or the harness.
 
     oracle/model.py [--src DIR] LIST..
 
@@ -156,7 +155,7 @@ def refuse_weighting(call):
 
 
 def refuse_restart(call):
-    """Refusals 16 and 17 (C-22), of a call that has a row."""
+    """Refusals 16 and 17, of a call that has a row."""
     bands = ROWS[call.duration][call.bandwidth]
     if not bands[0][0] <= call.at <= bands[-1][-1]:
         return Answer(16)
@@ -425,7 +424,8 @@ def refuse_output_call(call):
 
 
 def decoder_filters(call):
-    """The filters of a decoder's call. Index 0 is a coefficient like any other (C-14).
+    """The filters of a decoder's call. Index 0 is a coefficient like any other
+    (docs/RULES.md, "Index 0 (C-14)").
     Filters without a band do not act."""
     return [
         ([coefficient_of(i) for i in used(call.orders, call.indices, f)], band)
@@ -466,7 +466,7 @@ def left_alone(patterns):
 
 
 def answered(tables, call, across=False):
-    """The documents' answer to a call, and the f32s that it gave an index to."""
+    """The rules' answer to a call, and the f32s that it gave an index to."""
     rules = [index_call, cost_call, decode_call, encode_call, save_call, restart_call]
     return rules[call.call](tables, call, across)
 

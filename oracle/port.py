@@ -22,7 +22,7 @@ def request(word, number, bytes_):
 
 
 def answer(word, refusal, told, made):
-    """The answer to a call that tells a number and wrote these bytes at the start of
+    """The answer to a call that gives a number and wrote these bytes at the start of
     what it was lent."""
     return struct.pack("<HHB", refusal, told, 0) + made + LENT[len(made) : SIZE[word]]
 

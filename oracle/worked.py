@@ -1,15 +1,15 @@
 #!/usr/bin/env python3
-"""The documents' worked cases, each with a name: the limits of every number, every
-refusal, refusals that meet, silence, frames saved and mended (C-22), and document
-01's table of marked cases. The answers are the model's (model.py).
+"""Worked cases of docs/RULES.md, each with a name: the limits of every number, every
+refusal, refusals that meet, silence, frames saved and mended ("Restart at a line
+(C-22)"), and "Marked cases". The answers are the model's (model.py).
 
     oracle/worked.py [--src DIR] --print           a line for each case and its answer
     oracle/worked.py [--src DIR] --write [FILE]    writes the list crates/prog_replay/data/worked
     oracle/worked.py [--src DIR] --check           compares that list with the model
 
 With a FILE the list is written there instead. It fails if a case differs, if a marked
-case has another result than document 01 states, if a mended frame breaks the promise
-of C-22, or if a case leans on the last digits of the arcsine.
+case has another result than stated there, if a mended frame breaks the promise of
+"Restart at a line (C-22)", or if a case leans on the last digits of the arcsine.
 
 Assumes Python 3 with its standard library.
 """
@@ -206,7 +206,7 @@ def index_0_cases():
     yield "index 0 of a filter without a band", zeros_at(1, 8, every, 2, 0)
 
 
-# Frames saved before a line n, mended from n on, and decoded again from there (C-22)
+# Frames saved before a line n, mended from n on, and decoded again from there
 
 
 def lent_output(count):
@@ -348,7 +348,7 @@ def mended_cases():
 
 
 def check_mended(tables):
-    """Whether the model keeps the promise of C-22: a saved frame is the decoded one,
+    """Whether the model keeps the promise of a mended frame: a saved frame is the decoded one,
     and what is left from the line on is a fresh run of the new frame."""
     good = True
     for name, old, new, at in mended_frames():
@@ -470,7 +470,7 @@ def marked(weighting, *indices):
 
 
 def marked_cases():
-    """M1 to M14 of document 01, with what it states: bits, weighting or index."""
+    """M1 to M14 of docs/RULES.md, "Marked cases", with the bits, weighting or index."""
     yield "M1, one filter of order 0", marked(0), 1
     yield "M2, weighting 0, order 1, index 9", marked(0, 9), 13
     yield "M3, weighting 1, order 1, index 0", marked(1, 0), 18
@@ -488,13 +488,13 @@ def marked_cases():
 
 
 def check_marked(tables):
-    """Whether the model has the result that document 01 states."""
+    """Whether the model has the results stated there."""
     good = True
     for name, call, stated in marked_cases():
         answer, _ = model.answered(tables, call)
         result = answer.side[0] if call.call == ENCODE else answer.bits
         if answer.refusal or result != stated:
-            print(f"worked: {name}: the model has {result}, document 01 {stated}")
+            print(f"worked: {name}: the model has {result}, docs/RULES.md {stated}")
             good = False
     return good
 
@@ -540,7 +540,7 @@ def said(call, answer):
 
 
 def main():
-    arguments = model.parser("the documents' worked cases")
+    arguments = model.parser("the rules' worked cases")
     work = arguments.add_mutually_exclusive_group(required=True)
     for word in ["print", "check"]:
         work.add_argument(f"--{word}", action="store_true")

@@ -1,4 +1,4 @@
--- How the exported functions tell a verdict on a block: refusal 0 is an accepted call.
+-- How the exported functions give a verdict on a block: refusal 0 is an accepted call.
 use Prim.Native.Nat.{ℕ}
 use Rattle.check_verdicts.specs.Verdicts.{Verdict, numberOf, ofFault, unlessRefused}
 use Rattle.block_check.specs.Told.{countSaid}

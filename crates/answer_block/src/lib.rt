@@ -1,4 +1,4 @@
-// How the exported functions tell a verdict on a block: two numbers, which C and Rust take by value. Only
+// How the exported functions give a verdict on a block: two numbers, which C and Rust take by value. Only
 // the crate `tns` calls these functions, each with what a call on a block has just answered.
 use block_check::BlockAnswer;
 use block_kept::RescueAnswer;

@@ -96,7 +96,7 @@ line-place duration bandwidth filters orders indices lines n output =
     (omega arith)
     (omega arith)
 
--- ---- no refusal is told as an accepted call
+-- ---- no refusal is given as an accepted call
 
 pub refused-not-0 : {A : Type 0} (bits : A → ℕ) (why : Refusal) → 0 < answerFor bits (refused (says why)) .refusal
 refused-not-0 bits why = of-eight why .has-number

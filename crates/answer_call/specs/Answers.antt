@@ -1,4 +1,4 @@
--- How the exported functions tell a verdict: refusal 0 is an accepted call.
+-- How the exported functions give a verdict: refusal 0 is an accepted call.
 use Prim.Native.Nat.{ℕ}
 use Rattle.check_verdicts.specs.Verdicts.{Verdict, numberOf, placeOf, foundOf, ofFault, bitsIn}
 use Rattle.answer_call.specs.declared.Answer.{Answer}

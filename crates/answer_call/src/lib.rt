@@ -1,4 +1,4 @@
-// How the exported functions tell a verdict: four numbers, which C and Rust take by value. Only the
+// How the exported functions give a verdict: four numbers, which C and Rust take by value. Only the
 // crate `tns` calls these functions, each with what a door has just answered.
 use call_restart::LineAnswer;
 use check_line::LineRefusal;

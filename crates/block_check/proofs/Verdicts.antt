@@ -109,7 +109,7 @@ pub all-right : (number : ℕ) (block : List ℕ) → length block ≡ 512 → n
 all-right number block whole few s h n f r =
     tested number block whole few true true true true s h n f ∙ ap (λ (b : Bool). check 12 (not b) (accepted (recordsIn block))) r
 
--- ---- what an answer that counts records tells
+-- ---- what follows from an answer that counts records
 
 -- of a refusal, what was refused
 pub refused-too : {A B : Type 0} (made : A → B) (v : Verdict A) (why : Fault) → refused why ≡ onAccepted made v → v ≡ refused why

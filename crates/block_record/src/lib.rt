@@ -8,7 +8,7 @@ use cost_call::cost;
 ghost use mathlib.Core.Path.{_≡_};
 ghost use Rattle.block_record.specs.RecordBytes.{soundRecord};
 
-// Whether some bytes are a sound record. Fewer than 24, or more, are none.
+// Whether some bytes are a sound record. Fewer than 24, or more, are not one.
 pub fn is_sound(bytes: &[u8]) -> bool
     ensures { λ r. ⌜ r ≡ soundRecord (now (bytes .entry)) ⌝ }
 {

@@ -20,8 +20,8 @@ pub enum DecodeAnswer {
     Refused(Refusal),
 }
 
-// Decodes a spectrum in place. Any numbers and lists may be given: a frame or side data that document
-// 01 refuses is refused by number and leaves every line as it was.
+// Decodes a spectrum in place. Any numbers and lists may be given: a frame or side data that the rules
+// refuse (docs/RULES.md, "Refusal numbers") is refused by number and leaves every line as it was.
 pub fn decode(
     duration: u8,
     bandwidth: u8,

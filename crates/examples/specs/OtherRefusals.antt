@@ -14,7 +14,7 @@ abbrev textSays : TextRefusal → Fault
 textSays (badLine line byte) = placed 15 line byte
 textSays tooLong = numbered 9
 
--- it stands before whatever would follow, leaves what was there, and is told by its number and place
+-- it stands before whatever would follow, leaves what was there, and is given by its number and place
 stands : {A : Type 0} (why : TextRefusal) (next : Verdict A) → settle (refused (textSays why)) next ≡ refused (textSays why)
 stands why next = refl
 

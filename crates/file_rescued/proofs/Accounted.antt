@@ -1,5 +1,5 @@
 -- Every block of a file is kept or is in the report, and none is there twice: of each block the report has what is to be said of it, once, and nothing
--- else. What is left over behind the last whole block is told last, and nothing is where nothing is left over. These are laws of `rescued`, which is
+-- else. What is left over behind the last whole block is reported last, and not at all where nothing is left over. These are laws of `rescued`, which is
 -- what an accepted call gives (`few-kept`).
 use mathlib.Core.Path.{_≡_, refl, _∙_, ap}
 use mathlib.Core.Bool.{Bool, true, false, cond}
@@ -50,7 +50,7 @@ at-split place (x ∷ xs) ys = by (at-split place xs ys) (isOf place x)
     by rest true = ap (λ (l : List Entry). x ∷ l) rest
     by rest false = rest
 
--- the entry of another block is none of this one's
+-- the entry of another block is not one of this block's
 module _ (place at number : ℕ) (portion : List ℕ) (other : eqb at place ≡ false) where
   others-entries : (v : Verdict (List ℕ)) → entriesAt place (entriesBy at number portion v) ≡ []
   unfolding entriesAt
@@ -203,7 +203,7 @@ none-past place start number (p ∷ ps) h =
 pub none-beyond : (file : List ℕ) (place : ℕ) → length (portions 512 file) ≤ place → entriesAt place (rescued file .report) ≡ []
 none-beyond file place h = none-past place 0 0 (portions 512 file) (omega arith)
 
--- how many stray bytes are told, for each time they are
+-- how many stray bytes are reported, for each time they are
 unfoldable pub straysIn : List Entry → List ℕ
 straysIn [] = []
 straysIn (stray count ∷ entries) = count ∷ straysIn entries

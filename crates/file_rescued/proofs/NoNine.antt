@@ -1,4 +1,4 @@
--- No entry of a report bears a 9. The checks of a block say 9 only of bytes that are no whole block, and those are told as stray bytes; so a block that
+-- No entry of a report bears a 9. The checks of a block say 9 only of bytes that are no whole block, and those are reported as stray bytes; so a block that
 -- is dropped is dropped for 10, 11 or 12. The other 9, more blocks to keep than there are numbers for, refuses the call and is in no report.
 use mathlib.Core.Path.{_≡_, refl, sym, subst}
 use mathlib.Core.Bool.{Bool, true, false, cond, _&&_, not}

@@ -1,5 +1,5 @@
 -- docs/RULES.md, "Index and coefficient": the step of the indices is 12401689 / 2 ^ 26. It is an f32, and the spellings in E and in D both give it.
--- Nothing else here uses the step: the tables were swept out of the Rust, and are held against the sines themselves (`Sines`, and `ThresholdSines` of
+-- Nothing else here uses the step: the tables were swept out of the Rust, and are compared with the sines themselves (`Sines`, and `ThresholdSines` of
 -- index_choice).
 use mathlib.Core.Path.{_≡_, refl}
 use mathlib.Core.Bool.{false}

@@ -13,7 +13,7 @@ abbrev pub endText : End → List ℕ
 endText whole = []
 endText (refusedAt block fault) = blockRefusalText (numberOf fault) block
 
--- by an end, and whether what comes before it is written: where it could not be, nothing goes on, and no refusal is told behind what does not stand
+-- by an end, and whether what comes before it is written: where it could not be, nothing goes on, and no refusal is printed behind what does not stand
 abbrev pub nextOf : End → Bool → Next
 nextOf end false = Stops
 nextOf whole true = GoesOn

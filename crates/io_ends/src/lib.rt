@@ -1,5 +1,5 @@
-// How the blocks of a piece end: what was put of them is written, and then a refusal is told, by one line on
-// standard error and to the launcher. That anything is written or told is not proved, only what the line
+// How the blocks of a piece end: what was put of them is written, and then a refusal is reported, by one line
+// on standard error and to the launcher. That anything is written or reported is not proved, only what the line
 // says, and what is to be done next by whether the system took what was put.
 //
 // `settled` has a `requires`: that no more was put than the output has. Its callers have it from the
@@ -19,7 +19,7 @@ ghost use Rattle.io_blocks.specs.PutBlocks.{endOf};
 ghost use Rattle.io_ends.specs.EndText.{endText, nextOf};
 
 // What a program does once the blocks of a piece have ended and what was put of them is written, or could not
-// be: it goes on, it stops, or it tells a refusal and stops.
+// be: it goes on, it stops, or it reports a refusal and stops.
 enum Next {
     GoesOn,
     Stops,
@@ -38,15 +38,15 @@ fn put_end(put: Done, line: &mut [u8]) -> usize
     }
 }
 
-// Tells a refusal on standard error, and to the launcher.
+// Reports a refusal on standard error, and to the launcher.
 fn tell(put: Done) {
     let mut line = [0u8; 64];
     let count = put_end(put, &mut line);
     refuse(&line[..count]);
 }
 
-// What is done next. Where what was put could not be written, a refusal is not told: the blocks before it, which
-// its line would name, do not stand.
+// What is done next. Where what was put could not be written, a refusal is not reported: the blocks before it,
+// which its line would name, do not stand.
 fn next_of(put: Done, is_written: bool) -> Next
     ensures { λ r. ⌜ r ≡ nextOf (endOf (put .ended) (put .next)) «is_written» ⌝ }
 {
@@ -60,7 +60,7 @@ fn next_of(put: Done, is_written: bool) -> Next
     Next::Stops
 }
 
-// Writes what was put, and then tells the refusal, if there is one. Answers whether to go on. It requires
+// Writes what was put, and then reports the refusal, if there is one. Answers whether to go on. It requires
 // that no more was put than the output has (see the heading).
 pub fn settled(put: Done, out: &[u8]) -> bool
     requires { ⌜ put .count ≤ length (now out) ⌝ }

@@ -1,4 +1,4 @@
--- What a look at a name tells.
+-- What a look at a name finds.
 use mathlib.Core.Bool.{Bool, true, false}
 use Rattle.io_names.specs.declared.Look.{Look}
 use Rattle.io_names.specs.declared.Look.the-variants.{Free, Taken, Unknown}

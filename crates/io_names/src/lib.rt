@@ -1,5 +1,5 @@
 // Files by their names: whether a name is taken, what is said of one, and how the file that is made gets its own.
-// What a look at a name tells is promised by what the system answered, and so are the texts; what the system does
+// What a look at a name finds is promised by what the system answered, and so are the texts; what the system does
 // with a name cannot be.
 use io_paths::c_path;
 use io_paths::folder_of;
@@ -13,7 +13,7 @@ ghost use Rattle.text_put.specs.Text.{Puts};
 ghost use Rattle.io_names.specs.Looks.{lookOf};
 ghost use Rattle.io_names.specs.Said.{saidText};
 
-// What a look at a name tells: that nothing has it, that something has, or neither.
+// What a look at a name finds: that nothing has it, that something has, or neither.
 enum Look {
     Free,
     Taken,
@@ -78,8 +78,8 @@ pub fn opened(path: &[u8]) -> i32 {
     -1
 }
 
-// What is told by whether a link was read there, whether the system said that something else is there, and
-// whether it said that nothing is.
+// What a look finds: by whether a link was read there, whether the system said that something else is there,
+// and whether it said that nothing is.
 fn look_of(is_link: bool, is_other: bool, is_none: bool) -> Look
     ensures { λ r. ⌜ r ≡ lookOf «is_link» «is_other» «is_none» ⌝ }
 {
@@ -96,7 +96,7 @@ fn look_of(is_link: bool, is_other: bool, is_none: bool) -> Look
 }
 
 // Whether nothing has this name yet, not even a link to nothing. A link can be read; of anything else that
-// is there the system says that it is none. What stands in the way is said.
+// is there the system says that it is no link. What stands in the way is said.
 pub fn is_free(path: &[u8]) -> bool {
     if path.len() > 4095 {
         // No name is as long: to open it says so.

@@ -35,7 +35,7 @@ pub record MendsPiece (standing : Standing) (read : ℕ) (found left output repo
   pub records : CountsRecords (take (result .taken .bytes) output) (result .records)
   pub same : result .«is_changed» ≡ false
 
--- the reading ends, well, and of what is left over it is to be said that it is
+-- the reading ends, well, and what is left over must be reported
 pub record TellsRest (standing : Standing) (found output report : List ℕ) (result : Turned) : Type 0 where
   pub ends : result .standing ≡ endedAs true standing
   pub rescues : RescuesPiece (standing .place) (standing .kept) (take (standing .held) found) output report (result .taken)

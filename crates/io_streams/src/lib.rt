@@ -4,7 +4,7 @@
 // bytes are read and written nothing can be.
 //
 // Assumes of the launcher (the script `tns`) that it opens descriptor 3 and ends with status 1 if a 1 is
-// written there, and with 2 if a 2 is. Where it is not open, nobody is told.
+// written there, and with 2 if a 2 is. Where it is not open, the status does not say it.
 use libc::STDERR_FILENO;
 use libc::STDIN_FILENO;
 use libc::STDOUT_FILENO;
@@ -81,7 +81,7 @@ pub fn read_after(piece: &mut [u8], held: usize) -> Read
 }
 
 // Whether a program that has made so many reads, and has more to read, has made all that it makes, so that its
-// loop ends. No run makes so many, but one that did would be cut short, which its program tells as a failure.
+// loop ends. No run makes so many, but one that did would be cut short, which its program reports as a failure.
 pub fn is_spent(goes_on: bool, reads: u64) -> bool
     ensures { λ r. ⌜ r ≡ isSpent «goes_on» reads ⌝ }
 {

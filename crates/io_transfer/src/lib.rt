@@ -55,7 +55,7 @@ fn begun() -> Standing
     }
 }
 
-// How many of the bytes held are known to be whole where input fails: a block cut short is none, and of
+// How many of the bytes held are known to be whole where input fails: a block cut short is not one, and of
 // records those that were read.
 fn known(way: Way, held: usize) -> usize
     ensures { λ r. ⌜ r ≡ knownBytes way held ⌝ }

@@ -173,7 +173,7 @@ one-line-more m y ys Y YS w near = record { as-many = ap suc (near .as-many); ea
     at zero l = w
     at (suc j) l = near .each j (le-of-suc-le-suc l)
 
--- h told in m: 2^m is 2^(h+23) units of 2^-149, and 2^(m-13) is 2^(h+218) of 2^-357
+-- h expressed by m: 2^m is 2^(h+23) units of 2^-149, and 2^(m-13) is 2^(h+218) of 2^-357
 pub record Reading (m : ℤ) : Type 0 where
   pub h : ℕ
   pub small : h ≤ 245

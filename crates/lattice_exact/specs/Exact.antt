@@ -1,13 +1,13 @@
 -- docs/RULES.md, "The exact lattice": the encoder's rule over lists of whole numbers, without rounding.
 -- Lines count units of 2^-149, coefficients 2^-26, results 2^-357. A product with a coefficient counts units 2^26 times finer than its other
--- factor, so what it is added to is first told in those. So t and b count units of 2^-(149+26k) when k stages are done, and state k always does.
+-- factor, so what it is added to is first expressed in those. So t and b count units of 2^-(149+26k) when k stages are done, and state k always does.
 use mathlib.Core.List.{List}
 use Prim.Native.Nat.{ℕ, zero, suc, _-_, _*_, _^_}
 use lib.ListN.{getD, set, replicate}
 use lib.IntN.{ℤ, pos, _+ℤ_, _*ℤ_}
 use Rattle.law_lists.specs.Lines.{linesThrough, stateThrough}
 
--- told in units 2^26 times finer
+-- expressed in units 2^26 times finer
 abbrev pub finer : ℤ → ℤ
 finer z = z *ℤ pos (2 ^ 26)
 
@@ -48,7 +48,7 @@ lineExact q (suc k) states line =
     let p = exactStagesTo q k (exactEntering line states) in
     record { t = finer (p .t) +ℤ getD q k (pos 0) *ℤ getD (p .states) k (pos 0); states = set (p .states) k (p .b) }
 
--- the lines of a band, taken upwards, and told in units of 2^-357 whatever the order; and the states after them
+-- the lines of a band, taken upwards, and expressed in units of 2^-357 whatever the order; and the states after them
 unfoldable pub linesExact : List ℤ → ℕ → List ℤ → List ℤ → List ℤ
 linesExact q order =
     linesThrough (λ states line. lineExact q order states line .t *ℤ pos (2 ^ (26 * (8 - order)))) (λ states line. lineExact q order states line .states)

@@ -1,5 +1,5 @@
 -- One product and one sum of f32 numbers, with their signs: each is within half a unit in the last place of the exact one, and of at most its
--- bound in size. The numbers are told in units: x is ±a units of 2^-149, and a factor q is ±b parts of 1/d.
+-- bound in size. The numbers are expressed in units: x is ±a units of 2^-149, and a factor q is ±b parts of 1/d.
 use mathlib.Core.Path.{_≡_, refl, sym, ap, _∙_}
 use mathlib.Core.Bool.{Bool, true, false, not, _&&_, cond}
 use Prim.Native.Nat.{ℕ, _+_, _-_, _*_, _^_, _≤_, _<_}

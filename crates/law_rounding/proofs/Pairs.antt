@@ -27,7 +27,7 @@ infixl 7 _⊠_
 abbrev pub _⊠_ : Pair → Pair → Pair
 x ⊠ y = record { over = x .over * y .over + x .under * y .under; under = x .over * y .under + x .under * y .over }
 
--- told in units n times finer
+-- expressed in units n times finer
 infixl 7 _⊡_
 abbrev pub _⊡_ : Pair → ℕ → Pair
 x ⊡ n = record { over = x .over * n; under = x .under * n }
@@ -110,7 +110,7 @@ is-product (negsuc a) (pos b) v w h k =
 is-product (negsuc a) (negsuc b) v w h k =
     omega (arith, products (suc a) (suc b) (v .over) (w .over) (v .under) (w .under) (turned _ _ _ h) (turned _ _ _ k))
 
--- told in finer units
+-- expressed in finer units
 pub is-finer : (z : ℤ) (x : Pair) (n : ℕ) → Is z x → Is (z *ℤ pos n) (x ⊡ n)
 is-finer z x n h = is-again (z *ℤ pos n) (x ⊠ pair false n) (x ⊡ n) (omega arith) (is-product z (pos n) x (pair false n) h (is-signed false n))
 

@@ -38,7 +38,7 @@ closest-near n u above =
     subst (λ (z : ℕ). Near (pair false (closest n u * u)) (pair false z) u) (div-add-mod' n u)
     (by-remainder (n / u) r u (compare (r * 2) u) (leb→le (r * 2) u) (nleb→lt (r * 2) u) (eqb→eq (r * 2) u) (mod-lt n above))
 
--- ---- a value told in other units
+-- ---- a value expressed in other units
 
 pub same-value : (x : Float) (negative : Bool) (a c b d : ℕ) → 0 < c → a * d ≡ b * c → HasValue x negative a c → HasValue x negative b d
 same-value nan negative a c b d above e h = h

@@ -10,7 +10,7 @@ use lib.Ieee.Scale.{finite}
 abbrev pub signed : Bool → ℕ → ℤ
 signed negative size = cond negative (negℤ (pos size)) (pos size)
 
--- A number in units of 2^-n. It is told exactly where it is a whole number of them: every finite f32 is one of 2^-149.
+-- A number in units of 2^-n. It is exact where the number is a whole number of them: every finite f32 is one of 2^-149.
 abbrev pub inUnits : ℕ → Float → ℤ
 inUnits n nan = pos 0
 inUnits n (inf s) = pos 0

@@ -32,7 +32,7 @@ pub record PutsLines (frame : ℕ) (bytes : List ℕ) (records count : ℕ) (lef
 abbrev pub atStart : Standing
 atStart = record { frame = 0; held = 0; reads = 0; «goes_on» = true }
 
--- what is left over where input ends is a record cut short, and nothing is said of none
+-- what is left over where input ends is a record cut short; where nothing is left over, nothing is printed
 abbrev pub restText : ℕ → List ℕ → List ℕ
 restText frame [] = []
 restText frame (byte ∷ rest) = lineText frame (lineOf (byte ∷ rest))

@@ -96,7 +96,7 @@ pub fn labelled(label: &[u8], n: u64) {
     io::print_decimal(STDOUT_FILENO, n);
 }
 
-// Says of a record's first number that differs what it is to be and what it is.
+// Prints a record's first number that differs: what it must be, and what it is.
 fn differs(expected: u64, found: u64) {
     labelled(b"expected ", expected);
     labelled(b", found ", found);

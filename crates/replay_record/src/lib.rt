@@ -195,7 +195,7 @@ fn line_replayed(list: i32, call: Call, spectrum: &mut [f32]) -> bool {
     output_compared(list, call, orders, indices, spectrum, &mut output[0..m], n)
 }
 
-// Whether a record has a call that is none, more of something than there is room for, or an index
+// Whether a record has a call that does not exist, more of something than there is room for, or an index
 // call's lines other than one.
 fn beyond(call: Call, lines: usize) -> bool {
     if call.kind == 0 && lines != 1 {

@@ -17,7 +17,7 @@ pub struct Band {
     pub stop: usize,
 }
 
-// The bands of the two filters. A band that starts and stops at 0 is none.
+// The bands of the two filters. Where a band starts and stops at 0, there is no band.
 pub struct Row {
     pub first: Band,
     pub second: Band,

@@ -18,7 +18,7 @@ use Rattle.shape_lags.specs.LongBands.{Long, LongRow}
 long : Band → Bool
 long b = leb (b .start + 8) (b .«first_cut») && (leb (b .«first_cut» + 8) (b .«second_cut») && leb (b .«second_cut» + 8) (b .stop))
 
--- the test: the first band is long, and the second is, or is none
+-- the test: the first band is long, and so is the second, if there is one
 long-row : List ℕ → Bool
 long-row row = long (bandFrom 0 row) && (eqb (bandFrom 4 row .stop) 0 || long (bandFrom 4 row))
 

@@ -1,4 +1,4 @@
--- docs/RULES.md, "Restart at a line (C-22)": the decoder's run, split at a line. Save and restart are told by the run that tells the decode call, over what of the row lies below
+-- docs/RULES.md, "Restart at a line (C-22)": the decoder's run, split at a line. Save and restart are defined by the run that defines the decode call, over what of the row lies below
 -- line n and what lies from it on.
 use mathlib.Core.Path.{_≡_}
 use mathlib.Core.List.{List}

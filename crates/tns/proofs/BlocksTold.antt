@@ -1,4 +1,4 @@
--- What a call on a block promises is told in two numbers: for both of them.
+-- What a call on a block promises is given in two numbers: for both of them.
 use mathlib.Core.Path.{_≡_, sym, _∙_, ap, subst}
 use mathlib.Core.List.{List}
 use Prim.Native.Nat.{ℕ, _≤_}

@@ -1,5 +1,5 @@
-//! Calls that may be refused, against the documents' table: what the port answers,
-//! and that a refused call changes nothing.
+//! Calls that may be refused, against docs/RULES.md, "Refusal numbers": what the port
+//! answers, and that a refused call changes nothing.
 
 use crate::compare::same::Differing;
 use crate::document::Answer;

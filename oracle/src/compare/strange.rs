@@ -1,5 +1,5 @@
-//! What E and D do with input that document 01 refuses or changes: one line
-//! each, beginning `strange:`.
+//! What E and D do with input that the rules (docs/RULES.md) refuse or change: one
+//! line each, beginning `strange:`.
 
 use crate::document::Row;
 use crate::original::{caught, Build};
@@ -14,7 +14,7 @@ pub fn line(who: &str, input: &str, act: impl FnOnce() -> String) {
 /// Side data for D: filter count, orders, indices.
 pub type Given<'a> = (usize, &'a [usize], &'a [usize]);
 
-/// D on lines of ones, told as what it left of them.
+/// D on lines of ones; the line says what it left of them.
 pub fn decoder(
     build: &Build,
     input: &str,

@@ -1,5 +1,5 @@
-//! The calls that document 01 accepts, and an encoder's answer. A call's kind is
-//! its place in a list of kinds in `draw`.
+//! The calls that the rules accept (docs/RULES.md), and an encoder's answer. A call's
+//! kind is its place in a list of kinds in `draw`.
 
 use crate::document::rows::Row;
 use crate::document::rules::Filters;
@@ -52,9 +52,9 @@ pub struct Mended {
 }
 
 impl Mended {
-    /// Whether the frames agree as document 02 asks (C-22): on the row, the length,
-    /// the filter count, all lines below the line, and the orders and indices of
-    /// every filter whose band starts below it.
+    /// Whether the frames agree as they must (docs/RULES.md, "Restart at a line
+    /// (C-22)"): on the row, the length, the filter count, all lines below the line,
+    /// and the orders and indices of every filter whose band starts below it.
     pub fn agree(&self) -> bool {
         let Mended { old, new, line } = self;
         let bits = |call: &Decode| -> Vec<u32> {

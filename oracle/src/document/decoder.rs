@@ -1,5 +1,6 @@
-//! The decoder's lattice in f32, by document 01, on any part of a frame's lines:
-//! what document 02 says of a frame that is decoded from a line on (C-22).
+//! The decoder's lattice in f32 (docs/RULES.md, "Lattices"), on any part of a frame's
+//! lines, as a frame that is decoded from a line on needs it ("Restart at a line
+//! (C-22)").
 
 use crate::document::calls::Decode;
 use std::ops::Range;

@@ -1,4 +1,4 @@
-//! Document 01's exact lattice: the encoder's rule over whole numbers, and how
+//! docs/RULES.md, "The exact lattice": the encoder's rule over whole numbers, and how
 //! far filtered lines lie from it. Lines count units of 2^-149, coefficients
 //! units of 2^-26, results units of 2^-357.
 //! Assumes finite lines of at most 2^119 in size, and coefficients that are

@@ -1,6 +1,6 @@
-//! Document 01 written out in the harness: its rows, calls, refusals and rules,
-//! the decoder's lattice on a part of a frame (document 02, C-22), and the exact
-//! lattice. Nothing here is taken from the port.
+//! docs/RULES.md written out in the harness: its rows, calls, refusals and rules,
+//! the decoder's lattice on a part of a frame ("Restart at a line (C-22)"), and the
+//! exact lattice. Nothing here is taken from the port.
 
 mod calls;
 mod decoder;

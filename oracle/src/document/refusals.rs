@@ -57,9 +57,9 @@ pub fn side(filters: u8, orders: &[u8], indices: &[u8]) -> Option<Answer> {
     lowest_over(6, orders, 8).or_else(|| lowest_over(7, indices, 16))
 }
 
-/// Refusals 16 and 17 (document 02, C-22), which come after 7: the line before
-/// which a frame is saved or from which it is decoded again, and an output of
-/// another length than the spectrum.
+/// Refusals 16 and 17 (docs/RULES.md, "Refusal numbers"), which come after 7: the
+/// line before which a frame is saved or from which it is decoded again, and an
+/// output of another length than the spectrum.
 pub fn restart(row: &Row, line: usize, length: usize, output: usize) -> Option<Answer> {
     if !(row.first_start()..=row.last_stop()).contains(&line) {
         return Some(refused(16));

@@ -20,7 +20,7 @@ pub fn power(base: f32, exponent: usize) -> f32 {
 }
 
 /// One bit per counted filter plus its cost in 2048ths, rounded up, in whole
-/// numbers. Assumes what document 01 accepts.
+/// numbers (docs/RULES.md, "Cost"). Assumes side data that the rules accept.
 pub fn cost(side: &Side) -> usize {
     let mut bits = 0;
     for f in 0..side.filters {

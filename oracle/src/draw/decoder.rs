@@ -64,7 +64,8 @@ pub fn any_line(random: &mut Random, row: &Row) -> usize {
 }
 
 /// Any frame, and the same frame mended from a line on: in its lines, in the
-/// filters that document 02 leaves free there (C-22), or in both.
+/// filters that may differ there (docs/RULES.md, "Restart at a line (C-22)"), or in
+/// both.
 pub fn mended(random: &mut Random, row: &'static Row) -> Mended {
     let old = any_with_0(random, row);
     let line = any_line(random, row);

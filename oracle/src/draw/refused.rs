@@ -1,5 +1,5 @@
-//! Decoder calls that document 01 may refuse: each fault alone, faults together,
-//! and any numbers.
+//! Decoder calls that may be refused (docs/RULES.md, "Refusal numbers"): each fault
+//! alone, faults together, and any numbers.
 
 use crate::document::{refusals, Answer, Decode, Row, Side, ACCEPTED, ROWS};
 use crate::draw::numbers::{any_length, over};
@@ -40,7 +40,7 @@ fn spoil_places(random: &mut Random, list: &mut [u8], most: usize) {
 }
 
 impl Input {
-    /// A call that document 01 accepts.
+    /// A call that the rules accept.
     pub fn good(random: &mut Random, row: &Row) -> Self {
         Input {
             duration: row.duration,
@@ -82,7 +82,7 @@ impl Input {
         }
     }
 
-    /// The call of an input that document 01 accepts.
+    /// The call of an input that the rules accept.
     pub fn call(&self, lines: Vec<f32>) -> Option<Decode> {
         let numbers = [&[0, self.filters], &self.orders[..], &self.indices].concat();
         Some(Decode {
@@ -93,7 +93,7 @@ impl Input {
         })
     }
 
-    /// The answer of document 01's table.
+    /// The answer by docs/RULES.md, "Refusal numbers".
     pub fn by_table(&self) -> Answer {
         refusals::spectrum(self.duration, self.bandwidth, self.length)
             .or_else(|| refusals::side(self.filters, &self.orders, &self.indices))

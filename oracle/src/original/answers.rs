@@ -1,5 +1,5 @@
-//! D's and E's answers to a call, and what document 01 says instead where it
-//! differs from them.
+//! D's and E's answers to a call, and what the rules (docs/RULES.md) say instead where
+//! they differ from them.
 
 use crate::document::{rules, Decode, Encode, Encoded, Outcome, Side};
 use crate::original::build::Build;
@@ -18,7 +18,8 @@ pub enum How {
     Original,
     /// E's answer, and its lattice run on from line 200 to 240.
     RunOn,
-    /// E panics at a coefficient of exactly 1 or -1; document 01's answer.
+    /// E panics at a coefficient of exactly 1 or -1; the answer by docs/RULES.md, "Index
+    /// and coefficient".
     AtOne,
 }
 
@@ -88,7 +89,7 @@ impl Build {
     }
 
     /// The answer that the port must give, made of E's, and how it was had.
-    /// Nothing if E panics for a reason that document 01 does not know.
+    /// Nothing if E panics for a reason that docs/RULES.md does not name.
     pub fn wanted(&self, call: &Encode, asked: Option<Outcome>) -> Option<(Outcome, How)> {
         let Some(mut outcome) = asked else {
             return Some((self.at_one(call)?, How::AtOne));
@@ -102,7 +103,7 @@ impl Build {
         Some((outcome, How::RunOn))
     }
 
-    /// Document 01 at coefficients of exactly 1 and -1: indices 16 and 0. The
+    /// docs/RULES.md at coefficients of exactly 1 and -1: indices 16 and 0. The
     /// other coefficients go through E's quantization.
     fn at_one(&self, call: &Encode) -> Option<Outcome> {
         let reflections = self.reflections(call);

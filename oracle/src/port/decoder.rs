@@ -17,7 +17,7 @@ extern "C" {
     ) -> Answer;
 }
 
-/// A call that document 01 accepts.
+/// A call that the rules accept.
 pub fn decode(row: &Row, side: &Side, lent: &mut Lent<f32>) -> Answer {
     let [_, filters, sets @ ..] = side.record();
     let (orders, indices) = sets.split_at(2);

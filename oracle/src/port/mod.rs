@@ -1,7 +1,7 @@
 //! What calls the port, by the C names of its static library, and the memory
 //! that is lent to it. The shapes are written out here and not taken from the
 //! crate in `rust/`: its functions keep them to themselves, take no number that
-//! document 01 refuses, and lend memory of their own, where no guards lie.
+//! the rules refuse, and lend memory of their own, where no guards lie.
 
 #[cfg(any(feature = "decode", feature = "lc3"))]
 mod decoder;

@@ -159,7 +159,7 @@ fn decoded() -> bool {
 }
 
 /// Whether a band's three energies multiply to 0 in f32 though none is 0: there
-/// document 01 turns the filter off, and liblc3 looks at each energy.
+/// docs/RULES.md, "Analysis", turns the filter off, and liblc3 looks at each energy.
 fn product_underflows(row: &Row, lines: &[f32]) -> bool {
     (0..row.bands.len()).any(|band| {
         let energies = row

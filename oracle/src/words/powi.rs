@@ -1,5 +1,5 @@
-//! The word `powi`: gamma.powi(k) as E computes it against document 01's
-//! product rule, for every f32 gamma from 0.8 to 1 and k from 0 to 8.
+//! The word `powi`: gamma.powi(k) as E computes it against the product rule of
+//! docs/RULES.md, "Analysis", for every f32 gamma from 0.8 to 1 and k from 0 to 8.
 
 use crate::compare::Differing;
 use crate::document::rules;

@@ -13,7 +13,7 @@ use Rattle.block_buffer.proofs.Buffers.{as-told}
 use Rattle.block_read.proofs.read_block.Statement.{statement}
 use Rattle.block_read.proofs.read_block.Tie as tie
 
--- how many records were answered, and what that tells
+-- how many records were answered, and what follows from that
 counted : (c : tie.After-answer2) →
     let called = c .before .before in
     let g = called .before .before .args in

@@ -40,7 +40,7 @@ made number bytes body block long e f =
     in
     f ∙ ap (λ (b : List ℕ). b ++ sumBytes b) (its ∙ ap (λ (l : List ℕ). wordBytes number ++ l) (sym (part-of-first 2 508 512 bytes (omega arith))))
 
--- what the checks of a block that is kept told
+-- what the checks of a block that is kept answered
 kept : (c : tie.After-known-told2) →
     let bytes = c .before .before .before .before .before .args .bytes .now in
     MadeFrom (λ _. numberIn bytes) (keptVerdict (take 512 bytes)) (c .before .answer2 .given .0 .0)

@@ -9,7 +9,7 @@ use Rattle.call_restart.proofs.SplitFrames.{refused-save, saved}
 use Rattle.call_restart.proofs.save.Statement.{statement}
 use Rattle.call_restart.proofs.save.Tie as tie
 
--- what the call is given, and what is lent to it
+-- what the call is given, with the memory that it may write to
 abbrev start : tie.After-check-frame → tie.Start
 start c = c .before .before .before .before .before
 

@@ -15,7 +15,7 @@ use Rattle.text_put.proofs.Texts.{puts-none}
 use Rattle.io_portion.proofs.put_records.Statement.{statement}
 use Rattle.io_portion.proofs.put_records.Tie as tie
 
--- how many records were answered, and what that tells
+-- how many records were answered, and what follows from that
 counted : (c : tie.After-answer2) →
     let called = c .before .before in
     let g = called .before .before .before .args in

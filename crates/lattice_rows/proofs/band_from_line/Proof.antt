@@ -1,4 +1,4 @@
--- Each of the four numbers is held to the line.
+-- Each of the four numbers is limited to the line from below.
 use Prim.Native.Nat.{max}
 use borrow.Author.Needs.{needs}
 use Rattle.lattice_rows.proofs.Cut.{four-numbers}

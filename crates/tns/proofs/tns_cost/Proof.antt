@@ -1,4 +1,4 @@
--- It tells what the cost door says.
+-- It answers what the cost door says.
 use mathlib.Core.Path.{_≡_, sym, _∙_, ap, subst}
 use mathlib.Core.List.{List}
 use Prim.Native.Nat.{ℕ, _≤_}
@@ -29,7 +29,7 @@ refused-requires c κs =
     let g = c .before .before .before .before .before .before .args in
     subst (λ (v : Verdict ℕ). ofFault placeOf v ≤ 15) (sym (said (c .before))) (cost-place (g .weighting) (g .filters) (g .orders .now) (g .indices .now))
 
--- an answer that tells what the definition says has the definition's bits
+-- an answer that gives what the definition says has the definition's bits
 few : (answer : Answer) (weighting filters : ℕ) (orders indices : List ℕ) → answer ≡ answerFor itsBits (costOf weighting filters orders indices)
     → (answer ≡ answerFor itsBits (costOf weighting filters orders indices)) × (answer .bits ≤ 168)
 few answer weighting filters orders indices e = (e, subst (λ (a : Answer). a .bits ≤ 168) (sym e) (cost-at-most weighting filters orders indices))

@@ -1,4 +1,4 @@
--- It tells what the decode door says, and leaves the lines that the door leaves.
+-- It answers what the decode door says, and leaves the lines that the door leaves.
 use mathlib.Core.Path.{_≡_, sym, _∙_, ap, subst}
 use Prim.Native.Nat.{_≤_}
 use borrow.Author.Needs.{needs}

@@ -1,4 +1,4 @@
--- It tells what `save` says, and leaves what that leaves.
+-- It answers what `save` says, and leaves what that leaves.
 use mathlib.Core.Path.{sym, _∙_, ap, subst}
 use Prim.Native.Nat.{_≤_}
 use borrow.Author.Needs.{needs}

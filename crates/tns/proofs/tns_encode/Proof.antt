@@ -1,4 +1,4 @@
--- It tells what the encode door says, and writes what the door gives.
+-- It answers what the encode door says, and writes what the door gives.
 use mathlib.Core.Path.{_≡_, sym, _∙_, ap, subst}
 use Prim.Native.Nat.{ℕ, _≤_}
 use borrow.Author.Needs.{needs}
@@ -23,7 +23,7 @@ costs : (c : tie.After-answer2) →
     accepted (c .answer2 .given .0 .0) ≡ bitsVerdict (encodeVerdict (g .duration) (g .bandwidth) (g .bits) (g .flag) (g .lines .now))
 costs c = sym (ap encodeSays (c .answer2 .given .1)) ∙ c .before .before .before .before .encode .ensures .answer
 
--- an answer that tells what the door said has the door's bits
+-- an answer that gives what the door said has the door's bits
 few : (answer : Answer) (said verdict : Verdict ℕ) → said ≡ verdict → bitsIn itsBits said ≤ 168 → answer ≡ answerFor itsBits verdict → answer .bits ≤ 168
 few answer said verdict e h told = subst (λ (a : Answer). a .bits ≤ 168) (sym (told ∙ ap (answerFor itsBits) (sym e))) h
 

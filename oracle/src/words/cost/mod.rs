@@ -1,5 +1,5 @@
-//! The word `cost`: E's bit budget against document 01's whole-number rule,
-//! against the program ./tns, and at the inputs that document 01 refuses.
+//! The word `cost`: E's bit budget against the whole-number rule of docs/RULES.md,
+//! "Cost", against the program ./tns, and at the inputs that the rules refuse.
 
 mod program;
 mod strange;

@@ -1,4 +1,5 @@
-//! What E and D (std build) do with input that document 01 refuses or changes.
+//! What E and D (std build) do with input that the rules (docs/RULES.md) refuse or
+//! change.
 
 use crate::compare::strange::{decoder, line, Given};
 use crate::document::ROWS;

@@ -1,6 +1,6 @@
-//! Calls that document 01 refuses, each refusal alone and with every other,
-//! against its table; the lines must stay as they were, NaN bits included. Calls
-//! that turn out accepted are compared with D.
+//! Calls that the rules refuse, each refusal alone and with every other, against
+//! docs/RULES.md, "Refusal numbers"; the lines must stay as they were, NaN bits
+//! included. Calls that turn out accepted are compared with D.
 
 use crate::compare::{first_change, first_difference, refusals::Tally};
 use crate::document::ACCEPTED;
@@ -34,7 +34,7 @@ impl Calls<'_> {
         let mut lent = Lent::new(&before);
         let given = decode_lines(duration, bandwidth, filters, orders, indices, lent.lend());
         let other = if wanted == ACCEPTED {
-            let call = input.call(before).expect("document 01 accepts it");
+            let call = input.call(before).expect("the rules accept it");
             first_difference(&self.build.wanted_lines(&call), lent.list())
         } else {
             first_change(&before, lent.list())

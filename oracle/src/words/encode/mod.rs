@@ -1,6 +1,6 @@
 //! The word `encode`: E against the port's encoder in every field and line, bit
-//! by bit, where any NaN equals any other; then the refusals. Document 01's two
-//! intended differences from E are counted by themselves.
+//! by bit, where any NaN equals any other; then the refusals. The two
+//! intended differences between docs/RULES.md and E are counted by themselves.
 
 mod refusals;
 

@@ -1,6 +1,6 @@
-//! Calls that document 01 refuses, against its table; lines, side data and
-//! coefficients must stay as they were. Calls that turn out accepted are compared
-//! with E.
+//! Calls that the rules refuse, against docs/RULES.md, "Refusal numbers"; lines, side
+//! data and coefficients must stay as they were. Calls that turn out accepted are
+//! compared with E.
 
 use crate::compare::{difference, first_change, refusals::Tally};
 use crate::document::{refusals::spectrum, Encode, Row, ACCEPTED, ROWS};

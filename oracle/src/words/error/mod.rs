@@ -1,5 +1,5 @@
-//! The word `error`: how far the encoder's filtered lines lie from document
-//! 01's exact lattice, as a part of the bound 2^(m-13), for every whole m from
+//! The word `error`: how far the encoder's filtered lines lie from the exact lattice
+//! (docs/RULES.md, "The exact lattice"), as a part of the bound 2^(m-13), for every whole m from
 //! -126 to 119. It fails if a line lies beyond the bound or the harness's f32
 //! lattice is not the port's.
 

@@ -8,7 +8,7 @@ use std::path::Path;
 
 const RECORDS: usize = 4000;
 
-/// M1 to M5, then M14, of document 01, with the bits that it states.
+/// M1 to M5, then M14, of docs/RULES.md, "Marked cases", with the bits stated there.
 fn marked() -> Vec<(Side, usize)> {
     let one = |weighting: u8, indices: &[usize]| {
         let mut side = Side::plain(weighting, indices.len());
@@ -86,7 +86,7 @@ pub fn run(builds: &[Build; 2], root: &Path) -> bool {
     for (m, (side, bits)) in marked().iter().enumerate() {
         let found = std.bits(side);
         if found != *bits {
-            println!("lists: marked case {m} of the list: E {found}, document 01 {bits}");
+            println!("lists: marked case {m} of the list: E {found}, docs/RULES.md {bits}");
             good = false;
         }
     }

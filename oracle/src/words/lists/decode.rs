@@ -46,7 +46,7 @@ fn without_0(random: &mut Random, filters: usize, filter: usize, order: usize) -
     side
 }
 
-/// Index 0, at which D and document 01 differ: alone at every place of every
+/// Index 0, at which D and docs/RULES.md differ: alone at every place of every
 /// order, in either filter; and where it is not used, so that it changes nothing:
 /// from an order on, and in a filter that is not counted or has no band. White
 /// noise at the row's shortest length.

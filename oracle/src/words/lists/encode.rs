@@ -1,4 +1,4 @@
-//! The list `encode`: whole encoder calls with E's answers. E and document 01
+//! The list `encode`: whole encoder calls with E's answers. E and docs/RULES.md
 //! differ by intent on 10 ms bandwidth 2 with a filter on, where lines 200 to 239
 //! are those of E's lattice run on, and at coefficients of exactly 1 or -1; such
 //! calls are left out.

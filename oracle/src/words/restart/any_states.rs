@@ -1,6 +1,6 @@
 //! Restarts from any eight states, NaN and infinities among them. D begins with
-//! states of 0, so the lines are held to those of the harness's lattice, which the
-//! word holds to D's.
+//! states of 0, so the lines are compared with those of the harness's lattice, which
+//! the word compares with D's.
 
 use crate::compare::{first_change, first_difference, Differing};
 use crate::document::{Decode, ACCEPTED, ROWS};

@@ -1,6 +1,6 @@
-//! The word `restart` (document 02, C-22): the port saves a frame before a line n,
-//! the frame is mended from n on, and the port decodes it again from n. D decodes
-//! both frames whole. Then restarts from any states, and the refusals.
+//! The word `restart` (docs/RULES.md, "Restart at a line (C-22)"): the port saves a
+//! frame before a line n, the frame is mended from n on, and the port decodes it again
+//! from n. D decodes both frames whole. Then restarts from any states, and the refusals.
 
 mod any_states;
 mod refusals;
@@ -90,7 +90,7 @@ impl Frames<'_> {
             format!("{told}: save: answer {answer:?}; line {n}: D {wanted:08X}, port {given:08X}")
         });
         // D does not show its states. The harness's lattice does, and its lines are
-        // held to D's.
+        // compared with D's.
         let states = old.states_before(&self.table, line);
         let first = first_difference(&states, given);
         tally.states_differ.take(first.is_some(), || {

@@ -1,6 +1,6 @@
 //! Calls of both doors that are refused, each refusal alone and with every other,
-//! against the documents' table: the output and the states must stay as they were,
-//! NaN bits included. Calls that turn out accepted are compared with D, or from
+//! against docs/RULES.md, "Refusal numbers": the output and the states must stay as
+//! they were, NaN bits included. Calls that turn out accepted are compared with D, or from
 //! states of any bits with the harness's lattice.
 
 use crate::compare::{first_change, first_difference, refusals::Tally};
@@ -57,7 +57,7 @@ impl Calls<'_> {
         let given = desk.ask(door, numbers, line);
         let mut other = first_change(&spectrum, desk.spectrum()).is_some();
         if wanted == ACCEPTED {
-            let call = input.call(spectrum).expect("document 01 accepts it");
+            let call = input.call(spectrum).expect("the rules accept it");
             let (from, lines, left) = match door {
                 Door::Save => {
                     let states = call.states_before(&self.table, line);

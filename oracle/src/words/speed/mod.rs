@@ -12,7 +12,7 @@
 //! has the first four and then whose call it is and how often it was made.
 //!
 //! After these come lines and labels of restart, which only the port has: they are
-//! of four calls of its exports, told at the function.
+//! of four calls of its exports, which the function describes.
 
 mod callgrind;
 // The guard's own text, as it lies from the build folder,

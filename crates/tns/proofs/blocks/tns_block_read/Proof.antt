@@ -1,4 +1,4 @@
--- It tells what the door says, of at most twenty records.
+-- It answers what the door says, of at most twenty records.
 use borrow.Author.Needs.{needs}
 use Rattle.block_check.proofs.Verdicts.{read-few}
 use Rattle.tns.proofs.BlocksTold.{few-said, told-too}

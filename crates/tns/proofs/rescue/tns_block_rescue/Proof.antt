@@ -1,4 +1,4 @@
--- It tells what the step says.
+-- It answers what the step says.
 use mathlib.Core.Path.{_∙_, ap}
 use borrow.Author.Needs.{needs}
 use Rattle.answer_block.specs.BlockAnswers.{rescueFor}
