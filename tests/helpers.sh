@@ -66,7 +66,7 @@ interposed() { # READS FAILING WORD..
     ./interposed/tns "$@"
 }
 
-# What the library told last: $reads is how many reads there were, $cuts how many it made short, $gave how many
+# What the library reported last: $reads is how many reads there were, $cuts how many it made short, $gave how many
 # bytes they gave, $end the number of the first that gave the end, $final how many bytes the last gave that gave
 # some, $failures how often a call was made to fail, and $seconds how many went by on its own clock. Where it was not
 # there they are 0.
@@ -170,4 +170,32 @@ twenty() { # COMMAND..
 tally() {
     echo "$suite: $passed passed, $failed failed"
     [ "$failed" -eq 0 ]
+}
+
+# Makes the program `ended`, which runs a command as a terminal would: in a group of its own, with no signal ignored.
+# After the command's output it says in a line how that ended, `status N` or `signal N`, which a shell cannot tell
+# apart. Its own status is 0.
+makes_ended() {
+    cat >ended.c <<'END'
+#define _POSIX_C_SOURCE 200809L
+#include <signal.h>
+#include <stdio.h>
+#include <sys/wait.h>
+#include <unistd.h>
+
+int main(int count, char **words) {
+    const int signals[] = {SIGHUP, SIGINT, SIGQUIT, SIGPIPE, SIGTERM};
+    int status;
+    pid_t child = count > 1 ? fork() : -1;
+    if (child == 0) {
+        for (int i = 0; i < 5; i++) signal(signals[i], SIG_DFL);
+        if (setpgid(0, 0) == 0) execvp(words[1], words + 1);
+        _exit(127);
+    }
+    if (child < 0 || waitpid(child, &status, 0) != child) return 1;
+    if (WIFSIGNALED(status)) return printf("signal %d\n", WTERMSIG(status)) < 0;
+    return printf("status %d\n", WEXITSTATUS(status)) < 0;
+}
+END
+    ${HOSTCC:-${CC:-cc}} -std=c99 -O2 -Wall -Wextra -Werror -o ended ended.c
 }
