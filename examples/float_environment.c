@@ -1,6 +1,6 @@
-/* Audio threads are often run with flush-to-zero and denormals-are-zero, and a call that is made so has
- * other lines than tns.h promises. The guard, `decode_guarded`, makes the call in the default float
- * environment, whatever the thread's is, and puts the thread's back. Any call can be guarded so. */
+/* Calling from a thread that flushes subnormals, as audio threads and programs linked with -ffast-math do.
+ * There a call without a guard gives other lines than the library promises. With the guard of tns.h around
+ * it, the call gives the promised lines, and the thread's own float environment is back afterwards. */
 #include <stdio.h>
 #include <string.h>
 #include <xmmintrin.h>
@@ -9,9 +9,8 @@
 
 enum { LINES = 400, FIRST = 12 /* line of the filter */ };
 
-/* The control word MXCSR: the default (to nearest, subnormals kept, exceptions masked); the bits that
- * control anything, which is all but the status flags; what an audio thread sets. */
-enum { DEFAULT = 0x1f80, CONTROL = 0xffc0, FLUSH_TO_ZERO = 0x8000, DENORMALS_ARE_ZERO = 0x0040 };
+/* The control word MXCSR: the default, and two bits that an audio thread sets. */
+enum { DEFAULT = 0x1f80, FLUSH_TO_ZERO = 0x8000, DENORMALS_ARE_ZERO = 0x0040 };
 
 static tns_answer decode(float *lines)
 {
@@ -22,16 +21,13 @@ static tns_answer decode(float *lines)
 
 static tns_answer decode_guarded(float *lines)
 {
-    unsigned int callers = _mm_getcsr();
-    if ((callers & CONTROL) == DEFAULT)
-        return decode(lines);
-    _mm_setcsr(DEFAULT);
+    uint32_t callers = tns_float_enter();
     tns_answer answer = decode(lines);
-    _mm_setcsr(callers);
+    tns_float_leave(callers);
     return answer;
 }
 
-/* The spectrum's first filtered line, as its bits, after a call on subnormal lines. */
+/* Makes a call on subnormal lines. Gives the bits of the first filtered line. */
 static uint32_t first_line(tns_answer (*call)(float *lines))
 {
     const uint32_t subnormal = 0x00000b8e;
@@ -48,6 +44,7 @@ static uint32_t first_line(tns_answer (*call)(float *lines))
 int main(void)
 {
     unsigned int before = _mm_getcsr();
+    _mm_setcsr(DEFAULT);
     uint32_t expected = first_line(decode);
 
     unsigned int audio = DEFAULT | FLUSH_TO_ZERO | DENORMALS_ARE_ZERO;

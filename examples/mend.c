@@ -1,6 +1,6 @@
-/* Mending the upper half of a frame. The frame is decoded once, and the state before its second band is
- * saved. Then the upper half gets other lines and another filter, and that half alone is decoded again:
- * it comes out as if the whole mended frame were decoded anew. */
+/* Mending the upper half of a frame. The program decodes the frame once and saves the states before the
+ * second band. Then it gives the upper half other lines and another filter and decodes only that half. The
+ * output equals a decode of the whole mended frame. */
 #include <stdio.h>
 #include <string.h>
 
@@ -32,7 +32,7 @@ static tns_answer decode_anew(const frame *f, float *lines)
     return tns_decode(DURATION, BANDWIDTH, FILTERS, f->orders, 2, f->indices, 16, lines, LINES);
 }
 
-/* How many of the lines from one to another differ. */
+/* How many lines differ, from one line up to another. */
 static int differ(const float *a, const float *b, int from, int to)
 {
     int count = 0;
@@ -50,7 +50,7 @@ int main(void)
     tns_answer a = save(&f, output, SECOND, states);
     printf("save before line %d: refusal %d\n", SECOND, a.refusal);
 
-    /* The upper half is mended, its lines and its filter. The output has the lower half already. */
+    /* Mend the upper half, its lines and its filter. The output has the lower half already. */
     for (int i = SECOND; i < LINES; i++)
         f.spectrum[i] = (float)(i % 5 - 2);
     f.orders[1] = 4;
@@ -62,7 +62,7 @@ int main(void)
     printf("restart there: refusal %d; %d lines differ from the mended frame decoded anew\n",
            b.refusal, wrong);
 
-    /* Below the line nothing is written: marks stay. */
+    /* A restart writes nothing below its line: marks there stay. */
     float marks[LINES];
     for (int i = 0; i < LINES; i++)
         marks[i] = 1000 + (float)i;
@@ -71,7 +71,7 @@ int main(void)
     int below = differ(output, marks, 0, SECOND), above = differ(output, marks, SECOND, LINES);
     printf("lines written: %d below, %d from there on\n", below, above);
 
-    /* The second filter goes on from the states that the first one leaves, not from zeros. */
+    /* The second filter continues from the states that the first one leaves, not from zeros. */
     const float zeros[8] = {0};
     restart(&f, output, LINES, zeros);
     int without = differ(output, anew, SECOND, LINES);

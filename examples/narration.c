@@ -1,6 +1,6 @@
-/* A narration of 41 frames, kept in a file of blocks; here the file is an array. It is written and read
- * back a block at a time. Then one byte of it changes, and the reader tells in which block; then it is
- * cut short. Last, one record claims a bit too many, and its block is not written. */
+/* A narration of 41 frames in a file of blocks; here the file is an array. The program writes it and reads
+ * it back, one block at a time. Then it changes one byte, and the reader names the damaged block. Then it
+ * cuts the file short. Last, one record claims one bit too many, and its block is not written. */
 #include <stdio.h>
 #include <string.h>
 
@@ -18,7 +18,7 @@ static void make_record(uint8_t index, uint8_t record[TNS_RECORD_SIZE])
     record[23] = (uint8_t)(cost.bits >> 8);
 }
 
-/* Writes all records, or those before the first block that is refused. Gives the file's length. */
+/* Writes all records, or those before the first refused block. Gives the file's length. */
 static size_t write_file(const uint8_t *records, size_t len, uint8_t *file, int *refusal)
 {
     size_t number = 0;
@@ -36,8 +36,8 @@ static size_t write_file(const uint8_t *records, size_t len, uint8_t *file, int 
     return number * TNS_BLOCK_SIZE;
 }
 
-/* Reads a file to its end, or to the first block that is refused. Gives how many records stand, and
- * counts those that are not what was written. */
+/* Reads a file to its end, or to the first refused block. Gives how many records it read, and counts those
+ * that differ from what was written. */
 static int read_file(const uint8_t *file, size_t len, const uint8_t *records, int *refusal, int *wrong)
 {
     uint8_t found[TNS_BLOCK_CAPACITY * TNS_RECORD_SIZE];

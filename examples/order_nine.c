@@ -1,5 +1,6 @@
-/* The frame that once silenced a reader: order 9, where a filter has eight places of state. It is
- * refused by number and leaves the spectrum alone; the next frame, whose order is 8, is decoded. */
+/* A frame with order 9, where a filter has room for eight states. The decoder of lc3-codec 0.2.0 panics on
+ * it. Here the call is refused with error code 6 and leaves the spectrum unchanged. The next frame, of
+ * order 8, is decoded. */
 #include <stdio.h>
 #include <string.h>
 

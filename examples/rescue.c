@@ -1,7 +1,7 @@
-/* A narration of 125 frames on a failing card; here the file is an array. A byte of it changes, a hole of
- * zeros comes, and its end is gone; and one of its records has order 9, as on the bad day, under sums
- * that are right. What is sound of it is rescued a block at a time, and the reader takes all of that.
- * Rescued again, it stays as it is. Last, one block too many is refused. */
+/* Rescuing a narration of 125 frames from a failing card; here the file is an array. One byte of the file
+ * has changed, one block is all zeros, one record has order 9 under a correct checksum, and the end of the
+ * file is missing. The program rescues the sound blocks one at a time, and the reader accepts the mended
+ * file. A second rescue changes nothing. Last, one block too many is refused. */
 #include <stdio.h>
 #include <string.h>
 
@@ -20,7 +20,7 @@ static void make_record(uint8_t index, uint8_t record[TNS_RECORD_SIZE])
     record[23] = (uint8_t)(cost.bits >> 8);
 }
 
-/* Makes a block's sums right, whatever it holds: so does a script that checks nothing else. */
+/* Writes the correct checksum of a block, whatever it holds, as a faulty script could. */
 static void seal(uint8_t block[TNS_BLOCK_SIZE])
 {
     uint32_t plain = 0, weighted = 0; /* at most 508 * 255 and 508 * 509 / 2 * 255 */
@@ -37,8 +37,8 @@ static void seal(uint8_t block[TNS_BLOCK_SIZE])
 }
 
 /* Rescues a file into a mended one, which has room for as many blocks, and prints the report. Gives the
- * mended file's length, and how many lines the report has. Too many blocks to keep are refused before
- * anything is written or printed. */
+ * mended file's length and the number of lines in the report. Refuses too many blocks to keep before it
+ * writes or prints anything. */
 static size_t rescue_file(const uint8_t *file, size_t len, uint8_t *mended, int *lines, int *refusal)
 {
     size_t whole = len - len % TNS_BLOCK_SIZE, to_keep = 0, kept = 0;
@@ -75,8 +75,8 @@ static size_t rescue_file(const uint8_t *file, size_t len, uint8_t *mended, int 
     return kept * TNS_BLOCK_SIZE;
 }
 
-/* Reads a file to its end, or to the first block that is refused. Gives how many records stand. The list
- * has room for a full block's behind those. */
+/* Reads a file to its end, or to the first refused block. Gives how many records it read. The list has
+ * room for the records of one more full block. */
 static int read_file(const uint8_t *file, size_t len, uint8_t *records, int *refusal)
 {
     int count = 0;

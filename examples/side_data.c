@@ -1,5 +1,6 @@
-/* What an encoder sends beside the lines, and what it costs. A spectrum is encoded, its side data are
- * costed again, and side data with an index over 16 are refused. Every number of an answer is printed. */
+/* The side data that an encoder sends with the lines, and what they cost in bits. The program encodes a
+ * spectrum and computes the cost of its side data again. Then it passes an index over 16, which is refused.
+ * It prints every number of each answer. */
 #include <stdio.h>
 
 #include "tns.h"
@@ -28,7 +29,7 @@ int main(void)
     tns_answer a = tns_encode(DURATION, BANDWIDTH, BITS, false, lines, LINES, side, coefficients);
     print_answer("encode", a);
     printf("weighting %d, filters %d, orders %d and %d\n", side[0], side[1], side[2], side[3]);
-    /* Index 8 stands for the coefficient 0, a higher one for a positive, a lower for a negative. */
+    /* Index 8 means coefficient 0; a higher index means a positive one, a lower index a negative one. */
     int agree = 1;
     for (int i = 0; i < 16; i++) {
         int index = side[4 + i];

@@ -1,19 +1,20 @@
-//! lc3-codec's names for the decoder.
+//! The decoder under the names of lc3-codec 0.2.0.
 
-/// The decoder's noise shaping, under lc3-codec's names.
+/// The decoder's noise shaping under the names of lc3-codec 0.2.0.
 pub mod temporal_noise_shaping {
     use crate::{decode, Bandwidth, Duration, Refusal};
 
-    /// A list of `N` numbers as bytes; of another length, none. A number over 255 counts as 255, which
-    /// is as far beyond what is accepted.
+    /// A list of `N` numbers as bytes, or `None` if it has another length. A number over 255 becomes 255,
+    /// which is refused as well.
     fn bytes<const N: usize>(numbers: &[usize]) -> Option<[u8; N]> {
         let numbers: &[usize; N] = numbers.try_into().ok()?;
         Some(numbers.map(|n| u8::try_from(n).unwrap_or(u8::MAX)))
     }
 
-    /// Decodes a spectrum in place. A number over 255 is refused as 255. Where an index 0 is used, the
-    /// lines are others than lc3-codec's, which takes it for coefficient 0; here it is the encoder's
-    /// coefficient, -0.99573416.
+    /// Decodes a spectrum in place. A number over 255 is refused, and the refusal reports it as 255.
+    ///
+    /// Index 0 gives other lines than lc3-codec if a filter uses it. There it means coefficient 0; here it
+    /// means -0.99573416, the coefficient that the encoder writes it for.
     ///
     /// ```
     /// use gillsextant::decoder::temporal_noise_shaping::apply_temporal_noise_shaping;
@@ -35,7 +36,7 @@ pub mod temporal_noise_shaping {
         let filters = u8::try_from(num_tns_filters).unwrap_or(u8::MAX);
         let orders = bytes::<2>(reflect_coef_order);
         let indices = bytes::<16>(reflect_coef_ints);
-        // a list of another length is passed as an empty one, which is refused by the same number
+        // a list of another length is passed on as an empty one, which is refused with the same number
         let orders = orders.as_ref().map_or(&[][..], |list| list);
         let indices = indices.as_ref().map_or(&[][..], |list| list);
         decode(duration, bandwidth, filters, orders, indices, spec_lines)

@@ -1,6 +1,6 @@
-//! lc3-codec's names for the encoder.
+//! The encoder under the names of lc3-codec 0.2.0.
 
-/// The encoder's noise shaping, under lc3-codec's names.
+/// The encoder's noise shaping under the names of lc3-codec 0.2.0.
 pub mod temporal_noise_shaping {
     use crate::{sys, Duration, Refusal};
 
@@ -10,25 +10,25 @@ pub mod temporal_noise_shaping {
         duration: Duration,
     }
 
-    /// What a frame gives, besides its filtered lines.
+    /// The result of encoding a frame, besides its filtered lines.
     #[derive(Clone, Copy, Debug, PartialEq)]
     pub struct TnsResult {
-        /// The bits of the side data.
+        /// The bits that the side data cost.
         pub nbits_tns: usize,
         /// 1 if the coefficients are weighted, else 0.
         pub lpc_weighting: u8,
-        /// 1 or 2.
+        /// The number of filters, 1 or 2.
         pub num_tns_filters: usize,
         /// Each filter's order, 0 to 8.
         pub rc_order: [usize; 2],
         /// Eight indices for each filter, 0 to 16.
         pub rc_i: [usize; 16],
-        /// The coefficients that the indices stand for.
+        /// The quantized reflection coefficients, one for each index.
         pub rc_q: [f32; 16],
     }
 
     impl TemporalNoiseShaping {
-        /// An encoder of frames of a duration.
+        /// An encoder for frames of this duration.
         pub fn new(duration: Duration) -> Self {
             Self { duration }
         }

@@ -1,8 +1,8 @@
-//! The library's eight functions as C sees them. The contracts of these functions are proved; that the
-//! shapes here are theirs is for a reader to see in `crates/tns/src/`, and of the answers in
-//! `crates/answer_call/src/` and `crates/answer_block/src/`.
+//! The library's eight functions as C sees them. Their contracts are proved. That the declarations here
+//! match them is not: compare them with `crates/tns/src/`, and the answers with `crates/answer_call/src/`
+//! and `crates/answer_block/src/`.
 
-/// What a call answers: refusal 0 says that it is accepted.
+/// The answer of a call. Refusal 0 means accepted.
 #[derive(Clone, Copy)]
 #[repr(C)]
 pub struct Answer {
@@ -12,7 +12,7 @@ pub struct Answer {
     pub bits: u16,
 }
 
-/// What a call on a block answers.
+/// The answer of a call on a block.
 #[derive(Clone, Copy)]
 #[repr(C)]
 pub struct BlockAnswer {
@@ -20,7 +20,7 @@ pub struct BlockAnswer {
     pub records: u16,
 }
 
-/// What the rescue of a block answers.
+/// The answer of the rescue of a block.
 #[derive(Clone, Copy)]
 #[repr(C)]
 pub struct RescueAnswer {

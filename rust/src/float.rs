@@ -1,31 +1,31 @@
-//! The float environment of a call. libtns.a is proved for f32 arithmetic that rounds to nearest and
-//! keeps subnormals. The processor computes so if its word MXCSR says so, and that word is the
-//! thread's: audio threads are often run with flush-to-zero and denormals-are-zero, and a host may have
-//! set another rounding mode, or unmasked exceptions, which would end a call in SIGFPE. So every call
-//! of the library goes through here. Where the word asks for anything but the default, the default is
-//! set for the call, and then the caller's own word again.
+//! The float environment of a call. libtns.a is proved for f32 arithmetic that rounds to nearest and keeps
+//! subnormals. The processor computes so if its control word MXCSR says so, and each thread has its own
+//! word. Audio threads often set flush-to-zero and denormals-are-zero, a host may set another rounding mode,
+//! and an exception that is not masked would end a call with SIGFPE. So every call of the library goes
+//! through this module. If the word differs from the default, the module sets the default for the call and
+//! restores the caller's word afterwards. include/tns.h has the same guard for C.
 //!
-//! Assumes x86-64, the archive's only machine, and that the archive computes with SSE alone, as it
-//! does: the x87 has a control word of its own, which is left alone. MXCSR's six status flags say what
-//! has happened and change no result. They are not compared. A call raises some of them, as any
-//! float operation does; where the guard had to act, they too are put back.
+//! The module assumes x86-64, the only processor that the archive is for, and an archive that computes with
+//! SSE alone, as it does. It does not touch the control word of the x87. The six status flags of MXCSR
+//! record what has happened and change no result, so they are not compared. A call raises some of them, as
+//! any float operation does. If the guard changed the word, it restores the flags too.
 //!
-//! No float operation can slip out from between the two words. The archive is machine code already:
-//! to the compiler its functions may read and write any memory, as each `asm!` here may, so a call
-//! and an `asm!` never change places. None can slip in: the two words are set in a function that
+//! The compiler cannot move a float operation of the call out of the guard. The archive is machine code
+//! already. To the compiler, each of its functions and each `asm!` here may read and write any memory, so
+//! the two never change places. Nor can it move another operation in: the function that sets the word twice
 //! is never inlined and holds nothing but the call. The crate itself does no float arithmetic.
 
 use core::arch::asm;
 use core::mem::MaybeUninit;
 
-/// Round to nearest, subnormals kept, all six exceptions masked, no status flag up.
+/// Round to nearest, keep subnormals, mask all six exceptions, no status flag set.
 const DEFAULT: u32 = 0x1f80;
 /// Flush-to-zero, the rounding mode, the six masks and denormals-are-zero: all but the status flags.
 const CONTROL: u32 = 0xffc0;
 
-/// Makes a call of the library in the default float environment. Where that is the caller's too, the
-/// word is read and compared, and nothing else is done before the call or after it. A `move` closure
-/// keeps it so: one that borrows has its arguments put in memory first.
+/// Makes a call of the library in the default float environment. If the caller's is the default already,
+/// this only reads and compares the word. Pass a `move` closure: for one that borrows, the compiler would
+/// first store the arguments in memory.
 #[inline(always)]
 pub fn in_default<R>(call: impl FnOnce() -> R) -> R {
     let callers = control_word();
@@ -36,15 +36,15 @@ pub fn in_default<R>(call: impl FnOnce() -> R) -> R {
     }
 }
 
-/// The same where the caller's environment is another. Cold, so that the usual call runs straight on.
+/// The same for any other environment. Cold, so that the usual call needs no jump.
 #[cold]
 #[inline(never)]
 fn in_place_of<R>(callers: u32, call: impl FnOnce() -> R) -> R {
-    // SAFETY: every processor takes the default.
+    // SAFETY: every processor accepts the default.
     unsafe { set_control_word(DEFAULT) };
     // The library never unwinds, so the next step is always reached.
     let answer = call();
-    // SAFETY: the processor takes the word that it gave.
+    // SAFETY: the processor gave this word, so it accepts it.
     unsafe { set_control_word(callers) };
     answer
 }
@@ -60,7 +60,7 @@ fn control_word() -> u32 {
 }
 
 /// # Safety
-/// The word sets no bit that the processor does not know; one that does ends the process.
+/// The word must set no bit that the processor does not know: such a word ends the process.
 unsafe fn set_control_word(word: u32) {
     // SAFETY: the instruction reads these four bytes. It writes the status flags as well, which
     // `preserves_flags` would deny.

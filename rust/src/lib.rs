@@ -1,11 +1,11 @@
-//! Temporal noise shaping of the LC3 audio codec, for Rust: a safe wrapper around a library in which
-//! every function is proved to meet its contract. No call panics, whatever it is given: what cannot be
-//! done is refused, and a refused call leaves every line as it was.
+//! Temporal noise shaping (TNS) of the LC3 audio codec: a safe wrapper around a library in which every
+//! function is proved to meet its contract. No call panics, whatever its arguments. A call with bad
+//! arguments is refused with an error code, [`Refusal`], and leaves every line as it was.
 //!
 //! ```
 //! use gillsextant::{cost, decode, encode, Bandwidth, Duration, Refusal};
 //!
-//! // a falling spectrum, filtered in place and back again
+//! // encode a falling spectrum in place, then decode it
 //! let mut lines: Vec<f32> = (0..400).map(|n| 1000.0 * 0.95f32.powi(n)).collect();
 //! let encoded = encode(Duration::TenMs, Bandwidth::FullBand, 320, false, &mut lines)?;
 //! let side = encoded.side;
@@ -13,27 +13,32 @@
 //! assert_eq!(cost(side.weighting, side.filters, &side.orders, &side.indices), Ok(encoded.bits));
 //! decode(Duration::TenMs, Bandwidth::FullBand, side.filters, &side.orders, &side.indices, &mut lines)?;
 //!
-//! // the frame that once silenced a reader
+//! // order 9, where a filter has room for eight states: lc3-codec 0.2.0 panics here
 //! let bad = decode(Duration::TenMs, Bandwidth::FullBand, 1, &[9, 0], &[8; 16], &mut lines);
 //! assert_eq!(bad, Err(Refusal::Order { place: 0, found: 9 }));
 //! # Ok::<(), Refusal>(())
 //! ```
 //!
-//! When the upper part of a frame changes, [`decode_restart`] decodes that part alone, from what
-//! [`decode_save`] has saved.
+//! If the upper part of a frame changes, [`decode_restart`] decodes only that part, from the states that
+//! [`decode_save`] saved.
 //!
-//! [`narration`] keeps the side data of many frames in a file, in blocks that tell when a byte has
-//! changed, and rescues what is sound of a file that was damaged.
+//! The module [`narration`] keeps the side data of many frames in a file of blocks. Each block has a
+//! checksum that detects a changed byte. The module also rescues the sound blocks of a damaged file.
 //!
-//! A call may be made in any float environment, as from an audio thread with flush-to-zero and
-//! denormals-are-zero set: it works in the default one, and the thread has its own again afterwards.
+//! You may call from any thread, whatever its float environment: from an audio thread with flush-to-zero
+//! and denormals-are-zero, for instance. Each call sets the default environment and restores the thread's
+//! own afterwards.
 //!
-//! Coming from lc3-codec: [`encoder::temporal_noise_shaping`] and [`decoder::temporal_noise_shaping`]
-//! have its names. They answer with a `Result` where it panics. One index is decoded otherwise: 0 is
-//! the coefficient that the encoder wrote it for, where lc3-codec's decoder takes it for no coefficient.
+//! If you come from lc3-codec 0.2.0, [`encoder::temporal_noise_shaping`] and
+//! [`decoder::temporal_noise_shaping`] have its names. They return a `Result` where lc3-codec panics. They
+//! also decode index 0 differently: as the coefficient that the encoder writes it for, where lc3-codec's
+//! decoder takes it as 0.
 //!
 //! The feature `std`, which is on by default, adds the writer, the reader and the rescue of whole
-//! narrations. All else is `no_std`.
+//! narrations. Everything else is `no_std`.
+//!
+//! In the repository, `docs/RULES.md` has the rules that the library follows, and `docs/CONTRACTS.md` what
+//! is proved.
 #![no_std]
 #![deny(missing_docs)]
 
@@ -64,39 +69,39 @@ pub enum Duration {
 /// A frame's bandwidth.
 #[derive(Clone, Copy, Debug, PartialEq, Eq)]
 pub enum Bandwidth {
-    /// 4 kHz: one filter.
+    /// NB, 4 kHz: one filter.
     NarrowBand,
-    /// 8 kHz: one filter.
+    /// WB, 8 kHz: one filter.
     WideBand,
-    /// 12 kHz: one filter.
+    /// SSWB, 12 kHz: one filter.
     SemiSuperWideBand,
-    /// 16 kHz: two filters.
+    /// SWB, 16 kHz: two filters.
     SuperWideBand,
-    /// 20 kHz: two filters.
+    /// FB, 20 kHz: two filters.
     FullBand,
 }
 
-/// What an encoder sends beside the lines.
+/// The side data that an encoder sends with the lines.
 #[derive(Clone, Copy, Debug, Default, PartialEq, Eq)]
 pub struct SideData {
     /// 1 if the coefficients are weighted, else 0.
     pub weighting: u8,
-    /// 1 or 2.
+    /// The number of filters, 1 or 2.
     pub filters: u8,
     /// Each filter's order, 0 to 8.
     pub orders: [u8; 2],
-    /// Eight for each filter, 0 to 16; 8 stands for the coefficient 0, and 0 for -0.99573416.
+    /// Eight indices for each filter, 0 to 16. Index 8 means coefficient 0, index 0 means -0.99573416.
     pub indices: [u8; 16],
 }
 
-/// What [`encode`] gives besides the filtered lines.
+/// The result of [`encode`], besides the filtered lines.
 #[derive(Clone, Copy, Debug, PartialEq)]
 pub struct Encoded {
     /// The bits that the side data cost, at most 168.
     pub bits: u16,
-    /// What is sent.
+    /// The side data to send.
     pub side: SideData,
-    /// The coefficients that the indices stand for.
+    /// The quantized reflection coefficients, one for each index.
     pub coefficients: [f32; 16],
 }
 
@@ -121,7 +126,7 @@ impl Bandwidth {
     }
 }
 
-/// The duration of a code, as a record of a narration has it: 0 or 1. Any other is refused.
+/// From the code in a record of a narration: 0 for 10 ms, 1 for 7.5 ms. Any other code is refused.
 impl TryFrom<u8> for Duration {
     type Error = Refusal;
 
@@ -134,7 +139,7 @@ impl TryFrom<u8> for Duration {
     }
 }
 
-/// The bandwidth of a code, as a record of a narration has it: 0 to 4. Any other is refused.
+/// From the code in a record of a narration: 0 to 4 for NB to FB. Any other code is refused.
 impl TryFrom<u8> for Bandwidth {
     type Error = Refusal;
 
@@ -150,11 +155,11 @@ impl TryFrom<u8> for Bandwidth {
     }
 }
 
-/// Analyses a spectrum and filters it in place. `bits` is the frame's size; refused by
-/// [`Refusal::SpectrumLength`] alone.
+/// Analyses a spectrum and filters it in place. `bits` is the frame's size. `near_nyquist` turns every
+/// filter off. The only refusal is [`Refusal::SpectrumLength`].
 ///
-/// Where the lines are finite and at most 2^m in size, each filtered line is within 2^(m-13) of the
-/// filter worked without rounding, for whole m from -126 to 119.
+/// If every line is finite and at most 2^m in absolute value, for a whole m from -126 to 119, then each
+/// filtered line is within 2^(m-13) of what the same filter gives without rounding.
 #[inline]
 pub fn encode(
     duration: Duration,
@@ -166,7 +171,7 @@ pub fn encode(
     sys::encode(duration.code(), bandwidth.code(), bits, near_nyquist, lines)
 }
 
-/// Decodes a spectrum in place. An index stands for the coefficient that [`encode`] reports for it.
+/// Decodes a spectrum in place. An index means the coefficient that [`encode`] gives for it.
 #[inline]
 pub fn decode(
     duration: Duration,

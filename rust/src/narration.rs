@@ -1,10 +1,10 @@
-//! Narrations: the side data of many frames, kept in a file that tells when a byte of it has changed.
+//! Narrations: files with the side data of many frames, in blocks that have a checksum.
 //!
-//! A [`Record`] is the side data of one frame with its duration, bandwidth and bits. A file holds them in
-//! blocks of 512 bytes, up to 20 in each. `Writer` and `Reader` go through a whole file, over whatever
-//! `std::io` can write or read, and `rescue` makes a sound file of a damaged one; they need the feature
-//! `std`, which is on by default. [`write_block`], [`read_block`] and [`rescue_block`] make, check and
-//! rescue one block. Either way a file of any length takes the same little memory.
+//! A [`Record`] is the side data of one frame with its duration, bandwidth and bits. A file holds records
+//! in blocks of 512 bytes, up to 20 in each. `Writer` and `Reader` write and read a whole file, through
+//! `std::io`, and `rescue` makes a sound file from a damaged one. These need the feature `std`, which is on
+//! by default. [`write_block`], [`read_block`] and [`rescue_block`] work on one block. Either way the
+//! memory in use does not grow with the file.
 //!
 //! ```
 //! use gillsextant::narration::{read_block, write_block, BlockRefusal, Record};
@@ -25,7 +25,8 @@
 //!
 //! # The layout
 //!
-//! A number of two bytes has its low byte first. A record, in memory as in the file:
+//! `docs/FORMAT.md` in the repository describes the file byte by byte. A number of two bytes has its low
+//! byte first. A record, in memory as in the file:
 //!
 //! | bytes | |
 //! |---|---|
@@ -37,29 +38,29 @@
 //! | 6 to 21 | sixteen indices, 0 to 16 |
 //! | 22 and 23 | the bits that these cost |
 //!
-//! It is sound if each number is in its range, used or not, and the bits are the cost. A block:
+//! A record is sound if each number is in its range, used or not, and the bits are the cost. A block:
 //!
 //! | bytes | |
 //! |---|---|
 //! | 0 and 1 | its number, from 0 |
 //! | 2 | how many records it has, 1 to 20 |
-//! | 3 | the edition, 1 |
+//! | 3 | the format's version (edition), 1 |
 //! | 4 to 7 | zeros |
-//! | 8 to 507 | the records, then zeros |
-//! | 508 and 509 | the sum of bytes 0 to 507, modulo 65521 |
-//! | 510 and 511 | the sum of (508 - place) times byte over the same bytes, modulo 65521 |
+//! | 8 to 507 | the records, then padding (fill): zeros |
+//! | 508 and 509 | checksum: the sum of bytes 0 to 507, modulo 65521 |
+//! | 510 and 511 | checksum: the sum of (508 - place) times byte over the same bytes, modulo 65521 |
 //!
-//! A file has at most 65,536 blocks; one without records has no bytes. Whoever writes fills every block
-//! but the last. Whoever reads takes any count from 1 to 20 in any block. A block that is refused gives
-//! none of its records, and those of the blocks before it stand.
+//! A file has at most 65,536 blocks. A file without records has no bytes. A writer fills every block but
+//! the last; a reader accepts 1 to 20 records in any block. A refused block gives none of its records. The
+//! records of the blocks before it remain valid.
 //!
 //! # Rescue
 //!
-//! Where a file is damaged, the records behind the first refused block need not be lost. A rescue goes
-//! through all whole blocks of it and keeps each one whose sums, header, fill and records are right,
-//! whatever number stands in it. The kept blocks stand in their old order, numbered from 0, with fresh
-//! sums; their records stay byte for byte. More than 65,536 blocks to keep are refused by 9, before
-//! anything is written.
+//! A rescue also saves the sound blocks after the first refused one. It goes through all whole blocks of
+//! a damaged file and keeps each block whose checksum, header, padding and records are right, whatever its
+//! number. The kept blocks stay in their old order. They get new numbers from 0 on and a new checksum; their
+//! records do not change. If there are more than 65,536 blocks to keep, the rescue is refused with 9
+//! before it writes anything.
 
 mod block;
 #[cfg(feature = "std")]
@@ -81,5 +82,5 @@ pub const RECORD_SIZE: usize = 24;
 pub const BLOCK_SIZE: usize = 512;
 /// The most records in a block.
 pub const BLOCK_CAPACITY: usize = 20;
-/// The bytes of so many records.
+/// The bytes of the records of a full block.
 pub const RECORDS_SIZE: usize = RECORD_SIZE * BLOCK_CAPACITY;

@@ -2,16 +2,16 @@
 
 use core::fmt;
 
-/// Why a call was refused. Where several reasons hold, the one with the lowest number is given, and of
-/// several bad places the lowest. The numbers 9 to 12 belong to blocks of a narration:
-/// [`BlockRefusal`](crate::narration::BlockRefusal).
+/// Why a call was refused: the error code (refusal number) and what belongs to it. If several apply, a call
+/// gives the lowest, and the lowest of several bad places. The numbers 9 to 12 belong to blocks of a
+/// narration: [`BlockRefusal`](crate::narration::BlockRefusal).
 #[derive(Clone, Copy, Debug, PartialEq, Eq)]
 pub enum Refusal {
     /// 1: the duration is neither 10 ms nor 7.5 ms.
     Duration,
     /// 2: the bandwidth is over 4.
     Bandwidth,
-    /// 3: the spectrum ends before the last band does, or is longer than the longest.
+    /// 3: the spectrum ends before the last band does, or is longer than 400 lines (10 ms) or 300 (7.5 ms).
     SpectrumLength,
     /// 4: there are not two orders, or not sixteen indices.
     ListLength,
@@ -21,21 +21,21 @@ pub enum Refusal {
     Order {
         /// Which of the orders, from 0.
         place: u16,
-        /// The order that stands there.
+        /// The order at that place.
         found: u16,
     },
     /// 7: an index is over 16.
     Index {
         /// Which of the indices, from 0.
         place: u16,
-        /// The index that stands there.
+        /// The index at that place.
         found: u16,
     },
     /// 8: the weighting is over 1.
     Weighting,
     /// 16: the line is below the first band's start or over the last band's stop.
     Line,
-    /// 17: the output has another length than the spectrum.
+    /// 17: the output and the spectrum differ in length.
     OutputLength,
 }
 
@@ -56,8 +56,8 @@ impl Refusal {
         }
     }
 
-    /// The library's numbers for a refused call: 1 to 8, 16 and 17. Its functions on spectra and side
-    /// data give no other; one would be taken for 8.
+    /// From the library's number for a refused call: 1 to 8, 16 and 17. Its functions on spectra and side
+    /// data give no other; this would take another as 8.
     pub(crate) fn of(number: u16, place: u16, found: u16) -> Self {
         match number {
             1 => Refusal::Duration,

@@ -2,10 +2,11 @@
 
 use crate::{sys, Bandwidth, Duration, Refusal};
 
-/// A line, and the decoder's eight states before it: what [`decode_save`] gives and [`decode_restart`]
-/// goes on from. The two stay together, so that states cannot be taken to another line by mistake.
+/// A line and the decoder's eight states before it: [`decode_save`] gives them, and [`decode_restart`]
+/// continues from them. They are one value, so that states cannot be used at another line by mistake.
 ///
-/// Two are equal if their lines are and their states are as f32s: a NaN is not equal to itself.
+/// Two values are equal if their lines are equal and their states are equal as f32s. A NaN is not equal to
+/// itself.
 #[derive(Clone, Copy, Debug, PartialEq)]
 pub struct Saved {
     line: usize,
@@ -13,13 +14,13 @@ pub struct Saved {
 }
 
 impl Saved {
-    /// Any line and any eight states, such as those that were kept in a file. No state is refused, NaN
-    /// and infinities among them: the decoder runs on from what it is given.
+    /// Any line with any eight states, from a file for instance. No state is refused, not even NaN or an
+    /// infinity: the decoder continues from whatever it gets.
     pub fn new(line: usize, states: [f32; 8]) -> Self {
         Self { line, states }
     }
 
-    /// The line before which the states stand.
+    /// The line that the states belong to: they are the states before it.
     pub fn line(&self) -> usize {
         self.line
     }
@@ -30,11 +31,11 @@ impl Saved {
     }
 }
 
-/// Decodes a spectrum, which stays as it is, into an output of the same length, and saves the state
-/// before a line. The output is what [`decode`](crate::decode) leaves in place.
+/// Decodes a spectrum into an output of the same length and saves the states before a line. The spectrum
+/// is not changed. The output gets what [`decode`](crate::decode) leaves in place.
 ///
-/// The line can be any from the first band's start to the last band's stop, both included. The bands,
-/// start to stop (the line after the band's last):
+/// The line may be any from the first band's start to the last band's stop, both included. The bands, from
+/// start to stop (the line after the last):
 ///
 /// | bandwidth | 10 ms | 7.5 ms |
 /// |---|---|---|
@@ -44,8 +45,8 @@ impl Saved {
 /// | super wide | 12-160 and 160-320 | 9-120 and 120-240 |
 /// | full | 12-200 and 200-400 | 9-150 and 150-300 |
 ///
-/// Refused as [`decode`](crate::decode), then by [`Refusal::Line`], then by [`Refusal::OutputLength`].
-/// [`decode_restart`] has an example.
+/// The refusals are those of [`decode`](crate::decode), then [`Refusal::Line`], then
+/// [`Refusal::OutputLength`]. [`decode_restart`] has an example.
 #[inline]
 #[expect(clippy::too_many_arguments, reason = "a frame has six")]
 pub fn decode_save(
@@ -71,10 +72,10 @@ pub fn decode_save(
     Ok(Saved { line, states })
 }
 
-/// Decodes a spectrum, which stays as it is, from the saved line on. The output's lines below it are
-/// not written. Lines of no band are copied from the spectrum.
+/// Decodes a spectrum from the saved line on. The spectrum is not changed, and neither are the output's
+/// lines below that line. Lines outside the bands are copied from the spectrum.
 ///
-/// Whoever mends the upper part of a frame need not wait for all of it:
+/// To mend the upper part of a frame, decode only that part again:
 ///
 /// ```
 /// use gillsextant::{decode, decode_restart, decode_save, Bandwidth, Duration, Refusal};
@@ -86,25 +87,28 @@ pub fn decode_save(
 /// // the second band starts at line 200
 /// let saved = decode_save(duration, bandwidth, 2, &orders, &indices, &spectrum, &mut output, 200)?;
 ///
-/// // the upper half is mended, its lines and its filter
+/// // mend the upper half, its lines and its filter
 /// spectrum[200..].fill(0.5);
 /// orders[1] = 4;
 /// indices[8..].fill(7);
 /// decode_restart(duration, bandwidth, 2, &orders, &indices, &spectrum, &mut output, &saved)?;
 ///
-/// // the output is the whole frame's, as if it were decoded anew
+/// // the output equals a decode of the whole mended frame
 /// let mut anew = spectrum;
 /// decode(duration, bandwidth, 2, &orders, &indices, &mut anew)?;
 /// assert_eq!(output, anew);
 /// # Ok::<(), Refusal>(())
 /// ```
 ///
-/// From the line on, the output is what decoding the whole spectrum anew gives, if what was saved comes
-/// from [`decode_save`] of a frame that agrees with this one on the spectrum's length, the duration, the
-/// bandwidth, the number of filters, every line below, and the orders and indices of every filter whose
-/// band starts below. Anything else that was saved is not refused: the filters run on from it.
+/// From the line on, the output is the same as in a decode of the whole spectrum if [`decode_save`] saved
+/// the states, at the same line, in a frame that agrees with this one on:
 ///
-/// Refused as [`decode_save`].
+/// - the spectrum's length, the duration, the bandwidth and the number of filters;
+/// - every line below the saved line;
+/// - the orders and indices of every filter whose band starts below the saved line.
+///
+/// Any other states are accepted too, and the filters continue from those. The refusals are those of
+/// [`decode_save`].
 #[inline]
 #[expect(clippy::too_many_arguments, reason = "a frame has six")]
 pub fn decode_restart(

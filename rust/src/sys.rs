@@ -1,7 +1,7 @@
-//! The only calls of the library's eight functions. All eight are called in the default float
-//! environment (`float`), so that nobody has to know which of them compute with floats. All but the
-//! encoder's and those on blocks are inlined: handing nine arguments on would take longer than a
-//! decoder's call without a filter, and those that save and restart have more.
+//! All calls of the library's eight functions. Each call is made in the default float environment
+//! (`float`), so nobody has to know which of them compute with floats. All are inlined except the encoder's
+//! and those on blocks: passing nine arguments on would take longer than a decode without a filter, and the
+//! calls that save and restart have more arguments.
 
 use crate::exports::{
     tns_block_read, tns_block_rescue, tns_block_write, tns_cost, tns_decode, tns_decode_restart,
@@ -20,7 +20,7 @@ impl Answer {
         }
     }
 
-    /// Out of line, so that an accepted call is known by one comparison.
+    /// Not inlined, so that an accepted call costs one comparison.
     #[cold]
     #[inline(never)]
     fn why(self) -> Refusal {
@@ -55,7 +55,7 @@ pub fn encode(
 ) -> Result<Encoded, Refusal> {
     let (mut bytes, mut coefficients) = ([0; 20], [0.0; 16]);
     let (to_bytes, to_coefficients) = (&mut bytes, &mut coefficients);
-    // Sound: each pointer is a borrow's, good for its length, and no two overlap.
+    // Sound: each pointer comes from a borrow, is valid for its length, and no two overlap.
     let answer = float::in_default(move || unsafe {
         tns_encode(
             duration,

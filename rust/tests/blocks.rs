@@ -1,6 +1,7 @@
-//! Blocks of a narration, one at a time, against the gate's model of C-11 and C-16 (`common/narrations.rs`).
-//! Every call is made by the export as C makes it and by the crate, and must answer and write what the model
-//! says; of every byte that is lent it is known whether the call wrote it.
+//! One block of a narration at a time, compared with the gate's model (`common/narrations.rs`) of docs/RULES.md,
+//! "Block files (C-11)" and "Rescue (C-16)". Every call is made through the export, as C makes it, and through
+//! the crate. Both must answer and write what the model says. The tests know for every byte of a buffer whether
+//! the call wrote it.
 
 mod common;
 
@@ -16,8 +17,8 @@ use gillsextant::narration::{read_block, rescue_block, write_block, BlockRefusal
 #[path = "../src/exports.rs"]
 mod exports;
 
-/// What a call answers, its number or its refusal, and every byte that it leaves in what is lent to it:
-/// `None` where it writes nothing.
+/// What a call answers, its number or its refusal, and every byte that it leaves in its buffer: `None` where it
+/// writes nothing.
 type Left = (Result<u16, u16>, Vec<Option<u8>>);
 
 /// A call that writes to N bytes in the middle of others. It is made twice, with other bytes there: one
@@ -114,14 +115,14 @@ fn rescue(number: u64, bytes: &[u8]) -> Left {
     by_export
 }
 
-/// The call writes the model's block, all of it; it takes so many records.
+/// The call writes the model's block, all of it, and answers how many records it took.
 fn assert_written(number: u64, bytes: &[u8], taken: &[Bytes]) {
     let made = block(number, taken).to_vec();
     let found = write(number, bytes);
     assert_eq!(found, wanted(512, Ok((taken.len() as u16, made))));
 }
 
-/// The call gives these records and leaves what is lent behind them.
+/// The call gives these records and leaves the rest of the buffer.
 fn assert_read(number: u64, bytes: &[u8], list: &[Bytes]) {
     let found = read(number, bytes);
     assert_eq!(found, wanted(480, Ok((list.len() as u16, list.concat()))));
@@ -135,7 +136,7 @@ fn assert_not_read(number: u64, bytes: &[u8], refusal: u16) {
     assert_eq!(read(number, bytes), wanted(480, Err(refusal)));
 }
 
-/// The call answers what stood in the bytes and writes this block, all of it.
+/// The call answers the old number and writes this block, all of it.
 fn assert_rescued(number: u64, bytes: &[u8], stood: u16, kept: Block) {
     let found = rescue(number, bytes);
     assert_eq!(found, wanted(512, Ok((stood, kept.to_vec()))));
@@ -145,7 +146,7 @@ fn assert_not_rescued(number: u64, bytes: &[u8], refusal: u16) {
     assert_eq!(rescue(number, bytes), wanted(512, Err(refusal)));
 }
 
-/// One record, sound or not, is taken, given and kept, or refused by 12 all three ways.
+/// One record is written, read and rescued, or refused with 12 by all three calls.
 fn assert_sound(record: &Bytes, wanted: bool) {
     let one = block(7, &[*record]);
     if wanted {
@@ -172,7 +173,7 @@ fn every_count_is_written_and_read_back() {
     }
 }
 
-/// No records are no block, and no bytes are the end of a file, also behind the last block.
+/// An empty list makes no block, and length 0 is the end of a file, also after the last block.
 #[test]
 fn nothing_is_nothing() {
     for number in [0, 1, 65535, 65536, u64::MAX] {
@@ -181,7 +182,7 @@ fn nothing_is_nothing() {
     }
 }
 
-/// The first 20 records are taken of more, and the first 512 bytes of a block: nobody looks behind them.
+/// Of more than 20 records or 512 bytes, only the first 20 or 512 are read.
 #[test]
 fn longer_slices() {
     let list = records(41);
@@ -242,8 +243,8 @@ fn numbers_past_the_last() {
     }
 }
 
-/// Right sums are taken whatever the bytes are: what is wrong with them is told by another number. Large
-/// bytes bring both sums past 65521 many times.
+/// Right sums are accepted whatever the bytes are: other faults give other numbers. Large bytes bring both
+/// sums past 65521 many times.
 #[test]
 fn sums_of_any_bytes() {
     for value in 0..=255 {
@@ -424,11 +425,11 @@ fn limits_of_what_is_counted() {
     }
 }
 
-/// Of all bits that a record can claim, its cost alone is taken: one off either way is not, nor one that
-/// has the right low byte.
+/// Of all bits that a record can claim, only its cost is accepted. One more or less is refused, and so is a
+/// number with the right low byte.
 #[test]
 fn bits_are_the_cost() {
-    // M1 to M5 and M14 of document 01, and the two of request C-12: weighting, filters, order, first two
+    // M1 to M5 and M14 (docs/RULES.md, "Marked cases") and two more: weighting, filters, order, first two
     // indices, the others, bits.
     let marked = [
         ([0, 1, 0, 8, 8, 8], 1),
@@ -509,7 +510,7 @@ fn a_bad_record_anywhere() {
         assert_not_written(5, &list.concat(), 12);
         assert_not_read(5, &block(5, &list), 12);
     }
-    // What is behind the 20 that are taken is not looked at.
+    // The records after the first 20 are not read.
     let mut list = records(21);
     list[20][1] = 5;
     assert_written(5, &list.concat(), &list[..20]);
@@ -572,8 +573,8 @@ fn the_lowest_refusal() {
     assert_not_written(65536, &records(1)[0][..23], 9);
 }
 
-/// Whatever number stands in a block and whatever number it gets, it is kept, and answers what stood in it.
-/// All else of it stays but the sums, which are fresh.
+/// A block is kept whatever its old number and its new one, and the call answers the old one. Only the number
+/// and the sums change.
 #[test]
 fn every_count_is_rescued() {
     for (number, stood) in NUMBERS
@@ -604,8 +605,7 @@ fn every_number_is_rescued() {
     assert_eq!(numbered.len(), 65536 * 512);
 }
 
-/// Fewer than 512 bytes are no block, none among them, whatever the number. More than 512 are one, and
-/// nobody looks behind it.
+/// Fewer than 512 bytes, also 0, are refused whatever the number. Of more than 512 only the first 512 are read.
 #[test]
 fn slices_that_are_rescued() {
     let list = records(19);
@@ -652,8 +652,8 @@ fn no_changed_byte_is_rescued() {
     assert_eq!(untouched, [0xa5; 512]);
 }
 
-/// Every other value of every byte of the header, with right sums. A wrong number is no fault, and a count
-/// that makes records of zeros is none either. Then every byte of the fill.
+/// Every other value of every byte of the header, with right sums. Another number is no fault, and neither is
+/// a count that makes records of zeros. Then every byte of the fill.
 #[test]
 fn headers_and_fills_that_are_rescued() {
     let list = records(7);
@@ -684,9 +684,9 @@ fn headers_and_fills_that_are_rescued() {
     }
 }
 
-/// Every set of faults in one block is refused by the lowest, as it is when the block is read, but that a
-/// wrong number is none. A number past the last is told of a sound block alone: with a fault besides, the
-/// fault stands. But fewer than 512 bytes come first.
+/// Every set of faults in one block is refused with the lowest, as in a read, except that another number in the
+/// block is no fault. A call with a number over 65,535 is refused for it only if the block is sound; otherwise
+/// the fault is given. Fewer than 512 bytes come first.
 #[test]
 fn the_first_fault() {
     let mut met = [0; 4];

@@ -1,5 +1,5 @@
-//! The library across the boundary: the lists of `crates/prog_replay/data`, refusals, buffers that a refused
-//! call leaves alone, empty slices, threads.
+//! The library called from Rust: the lists of `crates/prog_replay/data`, refusals, buffers that a refused call
+//! must not change, empty slices, threads.
 
 mod common;
 
@@ -100,7 +100,7 @@ impl Record {
         );
         assert_eq!(found.map(|_| ()), self.verdict());
         assert!(same(&output, &self.after));
-        // The states of a refused call can be seen by the exports alone: restart.rs.
+        // Only the exports show the states of a refused call: restart.rs.
         if let Ok(saved) = found {
             assert_eq!(saved.line(), self.line);
             assert!(same(&saved.states(), &self.states_after));
@@ -124,8 +124,8 @@ impl Record {
         assert!(same(&output, &self.after));
     }
 
-    /// Makes the call and compares, or says that Rust has no words for it: there is no call for
-    /// the index rule, and no duration or bandwidth that does not exist.
+    /// Makes the call and compares, or says that Rust cannot express it: the crate has no call for the index
+    /// rule, and no duration or bandwidth that does not exist.
     fn replayed(&self) -> bool {
         let exists = self.duration < 2 && self.bandwidth < 5;
         match self.call {
@@ -140,8 +140,8 @@ impl Record {
     }
 }
 
-/// Replays a list; how many of its records, and how many Rust has no words for. The record where
-/// it fails is the last that is printed.
+/// Replays a list. Gives how many records it has, and how many of them Rust cannot express. If it fails, the
+/// last record printed is the one that failed.
 fn replayed(name: &str) -> (usize, usize) {
     let mut list = List::of(name);
     let (mut records, mut without) = (0, 0);
@@ -293,7 +293,7 @@ fn apart(wanted: &[f32], found: &[f32]) -> f32 {
     most(&mut pairs.map(|(x, y)| (x - y).abs())) / largest
 }
 
-/// A decoder that has what the encoder reports gives the lines back, but for rounding.
+/// With the encoder's side data, the decoder gives the lines back, except for rounding.
 #[test]
 fn encoded_spectra_come_back() {
     let mut list = List::of("encode");
@@ -315,8 +315,8 @@ fn encoded_spectra_come_back() {
     assert_eq!(filtered, 117);
 }
 
-/// Equal lines are a click. The encoder writes index 0 for it: at full band in the second filter, at
-/// 12 kHz in the first. Taken for no coefficient, as lc3-codec takes it, index 0 smears the click.
+/// Equal lines are a click. The encoder writes index 0 for it: at full band in the second filter, at 12 kHz in
+/// the first. If index 0 meant coefficient 0, as in lc3-codec 0.2.0, the decoder would smear the click.
 #[test]
 fn a_click_comes_back() {
     for (bandwidth, place) in [(Bandwidth::FullBand, 8), (Bandwidth::SemiSuperWideBand, 0)] {

@@ -1,9 +1,9 @@
-//! The caller's float environment. In every one a call of the crate answers and leaves the same bits,
-//! and the environment is afterwards what it was. That the spectra can tell is shown beside it: the
-//! exports themselves, called without the guard, give others or raise the exceptions.
+//! The caller's float environment. In every environment a call of the crate answers and leaves the same bits,
+//! and the environment is the same afterwards. Other tests show that the spectra can detect a difference: the
+//! exports, called without the guard, give other bits or raise the exceptions.
 //!
-//! A test sets the thread's word MXCSR for a call alone, and has it back before anything is compared:
-//! Rust takes the default for granted.
+//! A test sets the thread's control word MXCSR only for a call and restores it before it compares anything,
+//! because Rust assumes the default.
 
 mod common;
 
@@ -460,7 +460,7 @@ const UNGUARDED: [Call; 4] = [
     restart_unguarded,
 ];
 
-/// Without the guard every environment but the default changes lines.
+/// Without the guard, every environment except the default changes lines.
 #[test]
 fn lines_hang_on_the_environment() {
     let spectra = spectra();
@@ -507,7 +507,7 @@ fn calls_raise_exceptions() {
     }
 }
 
-/// What include/tns.h says of C: refusals and the cost need no guard.
+/// As include/tns.h says, refusals and the cost need no guard in C.
 #[test]
 fn refusals_and_cost_are_the_same_unguarded() {
     for lines in spectra() {
@@ -534,7 +534,7 @@ fn refusals_and_cost_are_the_same_unguarded() {
     }
 }
 
-/// Blocks by the crate and, as include/tns.h says of C, without the guard: what is written, read and
+/// Blocks through the crate and, as include/tns.h allows in C, without the guard: what is written, read and
 /// rescued, what is refused, and the environment afterwards.
 #[test]
 fn blocks_are_the_same() {

@@ -1,6 +1,6 @@
-//! Whole narrations through `Writer` and `Reader`, against the gate's model of C-11 (`common/narrations.rs`):
-//! what is written and read back, refusals with their block and what stands before them, and readers and
-//! writers that come in pieces or fail.
+//! Whole narrations through `Writer` and `Reader`, compared with the gate's model (`common/narrations.rs`) of
+//! docs/RULES.md, "Block files (C-11)": what is written and read back, refusals with their block and the
+//! records before it, and readers and writers that give or take pieces or fail.
 #![cfg(feature = "std")]
 
 mod common;
@@ -122,7 +122,7 @@ fn encoded_side_data_of_the_list() {
     assert_eq!((found.unwrap(), wanted.len()), (wanted, 168));
 }
 
-/// The reader takes any count in any block; the writer would have made other blocks of it.
+/// The reader accepts any count in any block, also where a writer would have made other blocks.
 #[test]
 fn blocks_of_any_count() {
     let list = records(105);
@@ -159,7 +159,7 @@ fn records_and_their_bytes() {
     }
 }
 
-/// Records of side data: M2 of document 01, as request C-21 writes it, and what the cost refuses.
+/// Records of side data: M2 (docs/RULES.md, "Marked cases"), and what the cost refuses.
 #[test]
 fn records_of_side_data() {
     let mut indices = [8; 16];
@@ -245,8 +245,8 @@ const FAULTS: [Fault; 8] = [
     }),
 ];
 
-/// Every fault in every block of five: it is told with its block, once; the records of the blocks before
-/// it stand, and none of its own or of a later one is given.
+/// Every fault in every block of five. The reader gives the records of the blocks before it, then the error
+/// with its block, once, and no record of that block or of a later one.
 #[test]
 fn one_fault_in_each_block() {
     let (blocks, list) = five_blocks();
@@ -281,7 +281,7 @@ fn a_block_cut_short() {
     }
 }
 
-/// Faults in two blocks: the first block stands, whichever number is lower.
+/// Faults in two blocks: the error is the first block's, whichever number is lower.
 #[test]
 fn faults_in_two_blocks() {
     let (blocks, list) = five_blocks();
@@ -304,7 +304,7 @@ fn faults_in_two_blocks() {
     }
 }
 
-/// One byte of a file changed, at every place: noticed in its block, and the blocks before it stand.
+/// One byte of a file changed, at every place: its block is refused, and the blocks before it remain.
 #[test]
 fn one_byte_of_a_file() {
     let (blocks, list) = five_blocks();
@@ -358,7 +358,7 @@ fn the_writer_refuses_a_block() {
             let before = bad / 20;
             let wanted = (file(&list[..20 * before]), Err((before as u64, 12)));
             assert_eq!(write(&list), wanted);
-            // In two blocks: the first stands.
+            // In two blocks: the error is the first's.
             spoil(&mut list[92]);
             list[92][1] = 255;
             assert_eq!(write(&list), wanted);
@@ -386,7 +386,7 @@ fn a_refusal_is_told_with_its_block() {
     assert!(bytes.is_empty());
 }
 
-/// Without `finish` the blocks that were full stand, and no more: the documentation says so.
+/// Without `finish` only the full blocks are written, as the documentation says.
 #[test]
 fn a_writer_that_is_dropped() {
     let list = records(59);
@@ -453,7 +453,7 @@ fn in_pieces_and_interrupted() {
 }
 
 /// A read that fails is no refusal, wherever it fails: between blocks or within one, of a sound file or of
-/// one whose next block is faulty. The records before stand.
+/// one whose next block is faulty. The records before it are given.
 #[test]
 fn reads_that_fail() {
     let (blocks, list) = five_blocks();
@@ -468,7 +468,7 @@ fn reads_that_fail() {
             assert_eq!(kind(error.unwrap()), ErrorKind::PermissionDenied);
         }
     }
-    // What is refused before the place is told as refused.
+    // A refusal before that place is given as a refusal.
     let mut pieces = Pieces::of(&faulty.concat(), 512);
     pieces.fails_at = 1536;
     assert_eq!(read(pieces), (list[..40].to_vec(), Err((2, 10))));
@@ -523,7 +523,7 @@ fn a_full_writer() {
     assert_eq!(lent, file(&list));
 }
 
-/// `finish` flushes: what a buffer has held back is through, and a failure of it is told.
+/// `finish` flushes: it empties a buffer, and gives the error if that fails.
 #[test]
 fn finish_flushes() {
     let list = records(41);

@@ -1,7 +1,7 @@
-//! Whole narrations that are damaged, through `rescue` and `rescue_with`: what is kept, what is reported
-//! and in which words, what is refused, and streams that come in pieces, fail or change. What must come out
-//! is written out here or is the answer of the gate's model of C-16 (`common/narrations.rs`). One block at a
-//! time is rescued in `blocks.rs`.
+//! Whole damaged narrations through `rescue` and `rescue_with`: what is kept, what is reported and in which
+//! words, what is refused, and streams that give or take pieces, fail or change. The expected results are
+//! written here or come from the gate's model (`common/narrations.rs`) of docs/RULES.md, "Rescue (C-16)".
+//! `blocks.rs` tests the rescue of single blocks.
 #![cfg(feature = "std")]
 
 mod common;
@@ -47,7 +47,7 @@ fn rescued_of(damaged: &[u8]) -> Rescued {
     (mended, report)
 }
 
-/// The rescue keeps these blocks, by what stands in them, and has this report.
+/// The rescue keeps these blocks, given by their old numbers, and has this report.
 fn assert_rescued(damaged: &[u8], kept: &[Block], report: &[&str]) {
     let kept = kept.iter().enumerate();
     let wanted = kept.flat_map(|(number, block)| renumbered(*block, number as u16));
@@ -71,7 +71,7 @@ fn with(mut block: Block, place: usize, byte: u8) -> Block {
     block
 }
 
-/// The record that began it all, and sums that are right.
+/// A record with order 9, and right sums.
 fn order_nine(block: Block) -> Block {
     sealed(with(block, 8 + 24 * 3 + ORDERS, 9))
 }
@@ -249,7 +249,7 @@ fn a_number_that_is_right_again() {
     );
 }
 
-/// Any number can stand in a block.
+/// A block may have any number.
 #[test]
 fn numbers_of_any_size() {
     let list = records(3);
@@ -384,7 +384,7 @@ fn in_pieces_and_interrupted() {
     }
 }
 
-/// What is before the place where a stream stands is not part of the narration, and is not read again.
+/// The bytes before a stream's current position are not part of the narration and are not read.
 #[test]
 fn from_where_it_stands() {
     let (bytes, wanted) = damaged();
@@ -393,7 +393,7 @@ fn from_where_it_stands() {
         let mut cursor = Cursor::new(&longer[..]);
         cursor.set_position(before as u64);
         assert_eq!(rescue_both(cursor.clone()).unwrap(), wanted);
-        // Lent, it can be asked where it stands afterwards: at its end.
+        // Passed by reference, it can be asked for its position afterwards: its end.
         rescue(&mut cursor, io::sink()).unwrap();
         assert_eq!(cursor.position(), longer.len() as u64);
         // A buffer that has taken more than was asked of it.
@@ -475,7 +475,7 @@ fn reads_that_fail() {
     assert_eq!(rescue_both(Pieces::of(&bytes, 100)).unwrap(), wanted);
 }
 
-/// A stream that cannot say where it stands, as a pipe cannot, or that cannot go back there.
+/// A stream that cannot give its position, such as a pipe, or that cannot go back to it.
 #[test]
 fn seeks_that_fail() {
     let (bytes, wanted) = damaged();
@@ -492,7 +492,7 @@ fn seeks_that_fail() {
     assert_eq!(rescue_both(pieces).unwrap(), wanted);
 }
 
-/// A write that fails, wherever: what went before stands there.
+/// A write that fails, wherever: what was written before remains.
 #[test]
 fn writes_that_fail() {
     let (bytes, wanted) = damaged();
@@ -515,8 +515,8 @@ fn writes_that_fail() {
     assert_eq!(lent, wanted.0);
 }
 
-/// Each block is handed on whole and by itself, and all are flushed at the end: what a buffer has held back
-/// is through, and a failure of it is told.
+/// Each block is written whole and by itself, and all are flushed at the end: that empties a buffer, and its
+/// error is given if it fails.
 #[test]
 fn blocks_are_handed_on_and_flushed() {
     let (bytes, wanted) = damaged();
@@ -603,7 +603,7 @@ fn a_narration_that_changes() {
     ] {
         let ended = changed(&bytes, second);
         assert!(matches!(ended, Err(RescueError::Changed)));
-        // A writer is not told that all is over.
+        // The writer is not flushed.
         let mut pieces = Pieces::of(&bytes, 512);
         pieces.again = Some(Box::new(Pieces::of(second, 512)));
         let mut mended = Pieces::of(&[], 512);
@@ -612,7 +612,7 @@ fn a_narration_that_changes() {
     }
 }
 
-/// So many blocks that there are too many when they are read again: no refusal, for some are written.
+/// The second reading finds too many blocks. That is no refusal, because some are written already.
 #[test]
 fn a_narration_that_grows_too_long() {
     let sound = longest();
@@ -644,7 +644,7 @@ fn a_reader_that_lies() {
             Ok(0)
         }
     }
-    // It leaves what it is lent as it was, which is zeros.
+    // It leaves its buffer as it was: zeros.
     let report = [0, 1, 2].map(|place| format!("block {place} dropped 11"));
     assert_eq!(rescue_both(Liar(0)).unwrap(), (vec![], report.to_vec()));
 }

@@ -1,9 +1,9 @@
-//! Saving the decoder's state before a line and going on from there. The measure is the list `decode`,
-//! with the lines of D, lc3-codec's own decoder: what is saved and restarted, in a frame as it is and in
-//! one that was mended, must give them. Then come states of every kind, refusals, and lines that are
-//! only copied. Refusals are asked of the exports as C calls them, since the crate has no words for 1
-//! and 2 and keeps the states of a refused call to itself; what the crate has words for, it must answer
-//! the same.
+//! Saving the decoder's states before a line and restarting there: docs/RULES.md, "Restart at a line (C-22)".
+//! A save and a restart, in a frame as it is and in a mended one, must give the lines of the list `decode`,
+//! which are those of D, the decoder of lc3-codec 0.2.0. Then come states of every kind, refusals, and lines
+//! that are only copied. Refusals are tried through the exports as C calls them, because the crate cannot
+//! express 1 and 2 and does not show the states of a refused call. Where the crate can express a call, it must
+//! answer the same.
 
 mod common;
 
@@ -98,7 +98,7 @@ fn states_decide() {
     assert_eq!((from_zeros, from_others), ([185, 75, 89], [168, 71, 83]));
 }
 
-/// A call as C makes it, with all that is lent to it.
+/// A call as C makes it, with its buffers.
 #[derive(Clone)]
 struct Call {
     frame: Frame,
@@ -163,7 +163,7 @@ impl Call {
         [answer.refusal, answer.place, answer.found, answer.bits]
     }
 
-    /// The bits of the output, of the states and of all that is lent to be read.
+    /// The bits of the output, of the states and of all that is read.
     fn bits(&self) -> [Vec<u32>; 5] {
         let wide = |bytes: &[u8]| bytes.iter().copied().map(u32::from).collect();
         [
@@ -175,8 +175,8 @@ impl Call {
         ]
     }
 
-    /// Both calls are refused by these numbers and leave every bit, and so it is by the crate where it
-    /// has words for them.
+    /// Both calls are refused with these numbers and leave every bit, and so are the crate's where it can
+    /// express them.
     fn assert_refused(&self, number: u16, place: u16, found: u16) {
         for call in [Call::save, Call::restart] {
             let mut lent = self.clone();
@@ -324,8 +324,8 @@ fn calls_of_every_row(line: fn(&Frame) -> usize) -> Vec<Call> {
     calls
 }
 
-/// In every row the lines from the first start to the last stop are taken, and no other. Three of those
-/// that are refused would be the first start again if they were cut to a byte, to two or to four.
+/// In every row the lines from the first start to the last stop are accepted, and no other. Three of the
+/// refused ones would become the first start if they were cut to one byte, to two or to four.
 #[test]
 fn lines_that_are_refused() {
     for call in calls_of_every_row(Frame::first_start) {
@@ -399,8 +399,8 @@ fn first_line(line: f32, state: f32, index: u8) -> f32 {
     found[0]
 }
 
-/// What comes of them: at order 1 the line less the coefficient times the state, as f32s. Index 8
-/// stands for coefficient 0, and 9 for one above it.
+/// What comes of them: at order 1 the line less the coefficient times the state, as f32s. Index 8 means
+/// coefficient 0, and 9 one above it.
 #[test]
 fn odd_states_run_on() {
     assert!(first_line(1.0, f32::NAN, 9).is_nan());
@@ -422,7 +422,7 @@ fn copied_lines_keep_their_bits() {
             let mut frame = call.frame.clone();
             frame.filters = filters;
             frame.orders = vec![order; 2];
-            // Other NaNs than those that stand in the output.
+            // Other NaNs than those in the output.
             frame.spectrum = pattern(frame.spectrum.len()).iter().map(|x| -x).collect();
             for line in frame.lines_of_each_kind(7) {
                 let (saved, _) = frame.saved(line);

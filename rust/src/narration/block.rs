@@ -1,21 +1,21 @@
-//! One block of a narration, made, checked and rescued by the library.
+//! Writing, reading and rescuing one block of a narration.
 
 use super::{BLOCK_SIZE, RECORDS_SIZE};
 use crate::sys;
 use core::fmt;
 
-/// Why a block was refused. Where several reasons hold, the one with the lowest number is given;
-/// [`rescue_block`] alone asks for its number last.
+/// Why a block was refused: the error code (refusal number). If several apply, a call gives the lowest.
+/// [`rescue_block`] has one exception: it checks the number of the call last.
 #[derive(Clone, Copy, Debug, PartialEq, Eq, Hash)]
 pub enum BlockRefusal {
-    /// 9: the block is cut short, or its number is over 65,535.
+    /// 9: the block is cut short, or the number of the call is over 65,535.
     Length,
-    /// 10: the bytes have other sums than the block says.
+    /// 10: the checksum (the two sums) does not match the bytes.
     Sums,
-    /// 11: the header is wrong, the number is another, or the fill is not zero. A rescue takes any number
-    /// that stands in a block.
+    /// 11: the header is wrong, the padding (fill) is not zero, or the block has another number. A rescue
+    /// accepts any number in a block.
     Layout,
-    /// 12: a record breaks a limit or is cut short, or its bits are not its cost.
+    /// 12: a record is out of range or cut short, or its bits are not its cost.
     Record,
 }
 
@@ -30,8 +30,8 @@ impl BlockRefusal {
         }
     }
 
-    /// The library's numbers for a refused block. Its calls on blocks give no other; one would be taken
-    /// for 12.
+    /// From the library's number for a refused block. Its calls on blocks give no other; this would take
+    /// another as 12.
     pub(crate) fn of(number: u16) -> Self {
         match number {
             9 => BlockRefusal::Length,
@@ -55,14 +55,14 @@ impl fmt::Display for BlockRefusal {
 
 impl core::error::Error for BlockRefusal {}
 
-/// Writes the first 20 records of a list of bytes, or all where there are fewer, as the block of this
-/// number, and gives how many they are. No records are no block: `Ok(0)`, whatever the number, and
-/// nothing is written.
+/// Writes the block of this number from the first 20 records of a list of bytes, or from all if there are
+/// fewer, and gives how many records it took. An empty list makes no block: the call gives `Ok(0)`, whatever
+/// the number, and writes nothing.
 ///
-/// Refused by [`BlockRefusal::Length`] if the number is over 65,535, and by [`BlockRefusal::Record`] if a
-/// record that is taken is not sound or the last is cut short. A refused call leaves the block as it was.
+/// Refused with [`BlockRefusal::Length`] if the number is over 65,535, and with [`BlockRefusal::Record`] if
+/// one of these records is not sound or the last is cut short. A refused call leaves the block as it was.
 ///
-/// The list may be longer. It is written block by block, 480 bytes further on each time:
+/// The list may be longer. To write all of it, go on by 480 bytes for each block:
 ///
 /// ```
 /// use gillsextant::narration::{write_block, BlockRefusal, Record, BLOCK_SIZE, RECORDS_SIZE};
@@ -84,14 +84,14 @@ pub fn write_block(
     sys::block_write(number, records, block)
 }
 
-/// Checks the first 512 bytes as the block of this number, puts its records at the front of a list and
-/// gives how many they are. The rest of the list stays as it was. No bytes are the end of a file:
-/// `Ok(0)`, whatever the number, and nothing is written.
+/// Checks the first 512 bytes as the block of this number, writes its records to the start of a list and
+/// gives how many there are. The rest of the list does not change. An empty slice is the end of a file: the
+/// call gives `Ok(0)`, whatever the number, and writes nothing.
 ///
-/// Refused by [`BlockRefusal::Length`] if there are fewer than 512 bytes or the number is over 65,535,
-/// then by the other three in their order. A refused call leaves the list as it was.
+/// Refused with [`BlockRefusal::Length`] if there are fewer than 512 bytes or the number is over 65,535,
+/// then with the other three in their order. A refused call leaves the list as it was.
 ///
-/// A file that is all in memory is read so, to its end or to the first block that is refused:
+/// To read a file that is in memory, to its end or to the first refused block:
 ///
 /// ```
 /// use gillsextant::narration::{read_block, write_block, BlockRefusal, Record};
@@ -114,16 +114,20 @@ pub fn read_block(
     sys::block_read(number, block, records)
 }
 
-/// Rescues a block of a damaged narration: checks the first 512 bytes as [`read_block`] does, whatever
-/// number stands in them, and writes them as the block of this number. Bytes 2 to 507 stay as they were,
-/// and the sums are fresh. Gives the number that stood in the bytes.
+/// Rescues a block of a damaged narration: checks the first 512 bytes as [`read_block`] does, except that
+/// they may have any block number, and writes them as the block of this number. Bytes 2 to 507 do not
+/// change, and the checksum is new. Gives the old number.
 ///
-/// Refused by [`BlockRefusal::Length`] if there are fewer than 512 bytes, none among them; then by the
-/// other three in their order; and last by [`BlockRefusal::Length`] if nothing is wrong with the bytes and
-/// the number is over 65,535. A refused call leaves the block as it was.
+/// The order of its refusals:
 ///
-/// Of a damaged narration that is all in memory, the blocks that can be kept are found so. If whole blocks
-/// are refused by [`BlockRefusal::Length`], there are more than a narration can have.
+/// 1. [`BlockRefusal::Length`] if there are fewer than 512 bytes, also for an empty slice;
+/// 2. the other three in their order;
+/// 3. [`BlockRefusal::Length`] if nothing is wrong with the bytes and the number is over 65,535.
+///
+/// A refused call leaves the block as it was.
+///
+/// The example finds the blocks to keep of a damaged narration in memory. If [`BlockRefusal::Length`]
+/// refuses a whole block there, the narration has more blocks to keep than a file can have.
 ///
 /// ```
 /// use gillsextant::narration::{rescue_block, write_block, BlockRefusal, Record, BLOCK_SIZE};
@@ -133,7 +137,7 @@ pub fn read_block(
 /// #     write_block(number as u64, &Record::default().to_bytes(), block)?;
 /// # }
 /// # let mut damaged = damaged.concat();
-/// // four blocks, a byte of the second changed, and the end of the last one gone
+/// // four blocks; a byte of the second changes, and the last loses its last byte
 /// damaged[600] += 1;
 /// damaged.truncate(4 * BLOCK_SIZE - 1);
 ///

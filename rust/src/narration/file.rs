@@ -1,4 +1,4 @@
-//! Whole narrations, over what `std::io` can write and read.
+//! Writing and reading whole narrations through `std::io`.
 
 use super::{read_block, write_block, BlockRefusal, Record};
 use super::{BLOCK_CAPACITY, BLOCK_SIZE, RECORDS_SIZE, RECORD_SIZE};
@@ -6,17 +6,17 @@ use core::fmt;
 use core::iter::FusedIterator;
 use std::io::{self, Read, Write};
 
-/// Why a narration could not be written or read on.
+/// Why writing or reading a narration ended early.
 #[derive(Debug)]
 pub enum Error {
-    /// A block was refused. The blocks before it stand; of this one nothing is written or given.
+    /// A block was refused. The blocks before it remain valid; nothing of this one is written or given.
     Refused {
         /// The block's number, from 0.
         block: u64,
         /// The reason.
         why: BlockRefusal,
     },
-    /// The bytes themselves could not be written or read. That says nothing of the narration.
+    /// The bytes could not be written or read. That says nothing about the narration itself.
     Io(io::Error),
 }
 
@@ -31,7 +31,7 @@ impl fmt::Display for Error {
     }
 }
 
-// Its words have all that a source could add.
+// The message already includes the inner error, so there is no source.
 impl std::error::Error for Error {}
 
 /// Writes a narration: 20 records in every block but the last. [`Writer::finish`] writes the last one.
@@ -53,25 +53,25 @@ impl std::error::Error for Error {}
 /// # Ok::<(), Box<dyn std::error::Error>>(())
 /// ```
 ///
-/// Each block is handed on whole, by one `write_all`; a `BufWriter` in between saves system calls.
+/// Each block is written with one `write_all`; a `BufWriter` in between saves system calls.
 ///
-/// A writer that is dropped without [`Writer::finish`] loses the records of the block that is not full
-/// yet, up to 19 of them, and nobody can tell it from the file: the blocks before are a sound narration
-/// by themselves. So only a narration that was finished is a whole one.
+/// Always call [`Writer::finish`]. A writer that is dropped without it loses the records of the block that
+/// is not full yet, up to 19 of them. The file does not show the loss, because the blocks before are a sound
+/// narration.
 #[derive(Debug)]
 #[must_use = "the last records are written by `finish` alone"]
 pub struct Writer<W: Write> {
     inner: W,
-    /// The number of the block that is being filled.
+    /// The number of the next block to write.
     block: u64,
-    /// That block's records, and how many there are. There is always room for one more.
+    /// The records so far of that block, and how many there are. There is always room for one more.
     records: [u8; RECORDS_SIZE],
     held: usize,
-    /// What ended the writing.
+    /// The error that ended the writing.
     over: Option<Over>,
 }
 
-/// What ended the writing, in a form that can be told again.
+/// The error that ended the writing, in a form that can be returned again.
 #[derive(Clone, Copy, Debug)]
 enum Over {
     Refused { block: u64, why: BlockRefusal },
@@ -88,8 +88,8 @@ impl From<Over> for Error {
 }
 
 impl<W: Write> Writer<W> {
-    /// Begins a narration. Nothing is written yet. To have the inner writer again also after an error,
-    /// lend it: `Writer::new(&mut file)`.
+    /// Begins a narration; nothing is written yet. To keep the inner writer after an error too, pass a
+    /// reference: `Writer::new(&mut file)`.
     pub fn new(inner: W) -> Self {
         Self {
             inner,
@@ -100,15 +100,15 @@ impl<W: Write> Writer<W> {
         }
     }
 
-    /// Takes a record, and writes its block if that is full now.
+    /// Adds a record, and writes its block if that is full now.
     ///
-    /// A refusal is told with the whole block, at its 20th record or by [`Writer::finish`]: by
-    /// [`BlockRefusal::Record`] if one of its records is not sound, by [`BlockRefusal::Length`] if the
-    /// file has 65,536 blocks already. Nothing of a refused block is written.
+    /// A refusal comes only with a whole block: at its 20th record or from [`Writer::finish`]. It is
+    /// [`BlockRefusal::Record`] if one of the block's records is not sound, and [`BlockRefusal::Length`] if
+    /// the file has 65,536 blocks already. Nothing of a refused block is written.
     ///
-    /// An error ends the narration. Every call after it fails in the same way, and writes nothing. After
-    /// a refusal all blocks before the refused one have been handed on, though not flushed: whoever has
-    /// lent a buffer flushes it. After a failed write, a part of its block may have been handed on.
+    /// An error ends the narration. Every later call fails with the same error and writes nothing. After a
+    /// refusal, all blocks before the refused one have been written but not flushed; flush your buffer if
+    /// you passed a reference to one. After a failed write, a part of that block may have been written.
     pub fn push(&mut self, record: &Record) -> Result<(), Error> {
         self.goes_on()?;
         let place = RECORD_SIZE * self.held;
@@ -121,8 +121,8 @@ impl<W: Write> Writer<W> {
         }
     }
 
-    /// Writes the last block, flushes, and hands back the inner writer. No records, no bytes. After an
-    /// error it fails as [`Writer::push`] does.
+    /// Writes the last block, flushes, and gives back the inner writer. Without any records it writes no
+    /// bytes. After an error it fails as [`Writer::push`] does.
     pub fn finish(mut self) -> Result<W, Error> {
         self.goes_on()?;
         self.write_held()?;
@@ -137,7 +137,7 @@ impl<W: Write> Writer<W> {
         }
     }
 
-    /// Writes the records that are held as a block; none, as nothing.
+    /// Writes the records so far as a block, or nothing if there are no records.
     fn write_held(&mut self) -> Result<(), Error> {
         let mut bytes = [0; BLOCK_SIZE];
         let (block, records) = (self.block, &self.records[..RECORD_SIZE * self.held]);
@@ -150,7 +150,7 @@ impl<W: Write> Writer<W> {
                 return Err(over.into());
             }
         }
-        // Over until the block is out, so that it is over too if the inner writer panics.
+        // Ended until the block is written, so that the writing stays ended if the inner writer panics.
         self.over = Some(Over::Io(io::ErrorKind::Other));
         if let Err(error) = self.inner.write_all(&bytes) {
             self.over = Some(Over::Io(error.kind()));
@@ -163,9 +163,9 @@ impl<W: Write> Writer<W> {
     }
 }
 
-/// Reads a narration: an iterator over its records, block by block. Where a block is refused or the bytes
-/// cannot be read, that error comes once, after all records of the blocks before it, and then nothing
-/// more. Bytes that can be read to their end without an error are a sound narration.
+/// Reads a narration: an iterator over its records. If a block is refused or the bytes cannot be read, the
+/// iterator gives that error once, after all records of the blocks before it, and then ends. If it ends
+/// without an error, the bytes are a sound narration.
 ///
 /// ```
 /// use gillsextant::narration::{BlockRefusal, Error, Reader, Record, Writer};
@@ -177,7 +177,7 @@ impl<W: Write> Writer<W> {
 /// let mut file = writer.finish()?;
 /// assert_eq!(Reader::new(&file[..]).count(), 41);
 ///
-/// // a byte of the second block changes: 20 records stand
+/// // a byte of the second block changes: the 20 records of the first remain
 /// file[600] += 1;
 /// let mut reader = Reader::new(&file[..]);
 /// assert_eq!(reader.by_ref().take_while(Result::is_ok).count(), 20);
@@ -187,12 +187,12 @@ impl<W: Write> Writer<W> {
 /// # Ok::<(), Error>(())
 /// ```
 ///
-/// Each block is asked for by itself; a `BufReader` in between saves system calls. A read that is
-/// interrupted is tried again, and one that gives less than it was asked for is gone on with.
+/// Each block is read by itself; a `BufReader` in between saves system calls. An interrupted read is tried
+/// again, and a short read is continued.
 #[derive(Debug)]
 pub struct Reader<R: Read> {
     inner: R,
-    /// The number of the block that comes next.
+    /// The number of the next block.
     block: u64,
     /// The records of the block before it, how many there are, and how many have been given.
     records: [u8; RECORDS_SIZE],
@@ -203,7 +203,7 @@ pub struct Reader<R: Read> {
 }
 
 impl<R: Read> Reader<R> {
-    /// Begins to read a narration. Nothing is read yet.
+    /// Begins to read a narration; nothing is read yet.
     pub fn new(inner: R) -> Self {
         Self {
             inner,
@@ -215,7 +215,7 @@ impl<R: Read> Reader<R> {
         }
     }
 
-    /// Reads the next block; how many records it has, which at the end of the bytes is none.
+    /// Reads the next block. Gives how many records it has, or 0 at the end of the bytes.
     fn read_next(&mut self) -> Result<usize, Error> {
         let mut bytes = [0; BLOCK_SIZE];
         let length = read_up_to(&mut self.inner, &mut bytes).map_err(Error::Io)?;
@@ -232,7 +232,7 @@ impl<R: Read> Iterator for Reader<R> {
 
     fn next(&mut self) -> Option<Self::Item> {
         if self.given == self.held && !self.over {
-            // Over until a block has given records, so that it is over too if the inner reader panics.
+            // Ended until a block has given records, so that it stays ended if the inner reader panics.
             self.over = true;
             (self.given, self.held) = (0, 0);
             match self.read_next() {
@@ -250,7 +250,7 @@ impl<R: Read> Iterator for Reader<R> {
 
 impl<R: Read> FusedIterator for Reader<R> {}
 
-/// Fills a buffer as far as there are bytes; how far that is. A read that is interrupted is tried again.
+/// Fills a buffer as far as there are bytes. Gives how many there were. Tries an interrupted read again.
 pub(super) fn read_up_to(inner: &mut impl Read, buffer: &mut [u8]) -> io::Result<usize> {
     let mut filled = 0;
     while filled < buffer.len() {
@@ -258,7 +258,7 @@ pub(super) fn read_up_to(inner: &mut impl Read, buffer: &mut [u8]) -> io::Result
         let room = rest.len();
         match inner.read(rest) {
             Ok(0) => break,
-            // A reader that claims more than there is room for is wrong, and no reason to panic.
+            // A reader that claims more bytes than there is room for is wrong, but no reason to panic.
             Ok(length) => filled += length.min(room),
             Err(error) if error.kind() == io::ErrorKind::Interrupted => {}
             Err(error) => return Err(error),

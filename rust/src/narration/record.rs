@@ -1,33 +1,33 @@
-//! The side data of one frame, as a narration keeps them.
+//! A record of a narration: the side data of one frame.
 
 use super::RECORD_SIZE;
 use crate::{cost, Bandwidth, Duration, Refusal, SideData};
 
 /// The side data of one frame, with its duration, its bandwidth and the bits that they cost.
 ///
-/// The fields are what stands in a file, and any numbers fit them. Whether they are sound is asked where a
-/// block is written or read. A record of [`Record::new`] is sound.
+/// The fields are as in the file and may have any value. Writing or reading a block checks whether they are
+/// sound. A record from [`Record::new`] is sound.
 #[derive(Clone, Copy, Debug, Default, PartialEq, Eq, Hash)]
 pub struct Record {
-    /// 0 for 10 ms, 1 for 7.5 ms; [`Duration`] can be made of it.
+    /// 0 for 10 ms, 1 for 7.5 ms; convert it with `Duration::try_from`.
     pub duration: u8,
-    /// 0 to 4; [`Bandwidth`] can be made of it.
+    /// 0 to 4 for NB to FB; convert it with `Bandwidth::try_from`.
     pub bandwidth: u8,
-    /// 0 to 2.
+    /// The number of filters, 0 to 2.
     pub filters: u8,
     /// 1 if the coefficients are weighted, else 0.
     pub weighting: u8,
     /// Each filter's order, 0 to 8.
     pub orders: [u8; 2],
-    /// Eight for each filter, 0 to 16.
+    /// Eight indices for each filter, 0 to 16.
     pub indices: [u8; 16],
     /// The bits that the side data cost, at most 168.
     pub bits: u16,
 }
 
 impl Record {
-    /// A record of side data, such as [`encode`](crate::encode) gives. The bits are those of
-    /// [`cost`], which can refuse the side data; a record that it does not refuse is sound.
+    /// A record from side data, such as [`encode`](crate::encode) gives. [`cost`] computes the bits and may
+    /// refuse the side data. If it accepts them, the record is sound.
     ///
     /// ```
     /// use gillsextant::narration::Record;
@@ -55,7 +55,7 @@ impl Record {
         })
     }
 
-    /// What an encoder sends beside the lines.
+    /// The record's side data.
     pub fn side(&self) -> SideData {
         SideData {
             weighting: self.weighting,
@@ -65,7 +65,7 @@ impl Record {
         }
     }
 
-    /// The record of 24 bytes, whatever they are.
+    /// The record in these 24 bytes, which may be any.
     pub fn from_bytes(bytes: &[u8; RECORD_SIZE]) -> Self {
         let [duration, bandwidth, filters, weighting, first, second, indices @ .., low, high] =
             *bytes;

@@ -1,4 +1,4 @@
-//! Whole narrations that are damaged, over what `std::io` can read twice and write.
+//! Rescuing whole damaged narrations through `std::io`.
 
 use super::file::read_up_to;
 use super::{rescue_block, BlockRefusal, BLOCK_SIZE};
@@ -6,8 +6,8 @@ use core::fmt;
 use std::io::{self, Read, Seek, SeekFrom, Write};
 use std::vec::Vec;
 
-/// One entry of a rescue's report. A sound narration has none. In words it is the line that `./tns rescue`
-/// prints for it:
+/// One entry of a rescue's report. For a sound narration the report is empty. Displayed, an entry is the
+/// line that `./tns rescue` prints:
 ///
 /// ```
 /// use gillsextant::narration::{BlockRefusal, RescueEntry};
@@ -21,28 +21,28 @@ use std::vec::Vec;
 /// assert_eq!(words, ["block 3 dropped 10", "block 4 renumbered 4 to 3", "17 stray bytes"]);
 /// ```
 ///
-/// A block's place is counted from 0 over all whole blocks of the damaged narration.
+/// Places count from 0 over all whole blocks of the damaged narration.
 #[derive(Clone, Copy, Debug, PartialEq, Eq, Hash)]
 pub enum RescueEntry {
-    /// A block was not kept.
+    /// A block was dropped.
     Dropped {
         /// The block's place.
         place: u64,
         /// Its first fault: [`BlockRefusal::Sums`], [`BlockRefusal::Layout`] or [`BlockRefusal::Record`].
         why: BlockRefusal,
     },
-    /// A block was kept that had another number before.
+    /// A block was kept and got a new number.
     Renumbered {
         /// The block's place.
         place: u64,
-        /// The number that stood in it, which can be any.
+        /// Its old number, which may be any.
         from: u16,
-        /// The number that it has now.
+        /// Its new number.
         to: u16,
     },
-    /// Bytes at the end that are not a whole block were not kept.
+    /// Bytes at the end that are not a whole block were dropped.
     Stray {
-        /// How many they are, 1 to 511.
+        /// How many bytes, 1 to 511.
         bytes: usize,
     },
 }
@@ -61,14 +61,14 @@ impl fmt::Display for RescueEntry {
     }
 }
 
-/// Why a narration was not rescued, or not to its end. The errors of the system say on which side it
-/// failed: a damaged narration is often on something that fails too.
+/// Why a narration was not rescued, or not to its end. An error of the system says which side failed,
+/// because a damaged narration is often on a failing disk.
 ///
 /// ```
 /// use gillsextant::narration::{rescue, RescueError};
 /// use std::io::Cursor;
 ///
-/// // what is to be mended has no room
+/// // there is no room for the mended narration
 /// # use gillsextant::narration::{Record, Writer};
 /// # let mut writer = Writer::new(Vec::new());
 /// # writer.push(&Record::default())?;
@@ -79,16 +79,16 @@ impl fmt::Display for RescueEntry {
 /// ```
 #[derive(Debug)]
 pub enum RescueError {
-    /// 9: more than 65,536 blocks are to be kept. Nothing was written or reported.
+    /// 9: there are more than 65,536 blocks to keep. Nothing was written or reported.
     TooMany,
-    /// The second reading found another number of blocks, of blocks to keep or of stray bytes than the
-    /// first.
+    /// The narration changed: the second reading found another number of blocks, of blocks to keep or of
+    /// stray bytes than the first.
     Changed,
-    /// The damaged narration could not be read, or read again from where it began.
+    /// The damaged narration could not be read, or not a second time.
     Read(io::Error),
     /// The mended narration could not be written.
     Write(io::Error),
-    /// The report was not taken. The error is the caller's own.
+    /// The caller's report function failed with this error.
     Report(io::Error),
 }
 
@@ -104,12 +104,12 @@ impl fmt::Display for RescueError {
     }
 }
 
-// Its words have all that a source could add.
+// The message already includes the inner error, so there is no source.
 impl std::error::Error for RescueError {}
 
-/// Rescues a damaged narration: writes a sound one of all its blocks that can be kept, and gives the
-/// report of what was done, in the damaged one's order. A sound narration comes out as it was, with an
-/// empty report, and so does one that was rescued before.
+/// Rescues a damaged narration: writes a sound narration from all blocks that can be kept, and gives a
+/// report in the order of the damaged narration. A sound narration, also one that was rescued before, comes
+/// out unchanged with an empty report.
 ///
 /// ```
 /// use gillsextant::narration::{rescue, Reader, Record, RescueError, Writer};
@@ -129,14 +129,14 @@ impl std::error::Error for RescueError {}
 /// let lines: Vec<String> = report.iter().map(|entry| entry.to_string()).collect();
 /// assert_eq!(lines, ["block 1 dropped 10", "block 2 renumbered 2 to 1", "17 stray bytes"]);
 ///
-/// // the records of the blocks that were sound, also behind the bad one
+/// // the records of all sound blocks, also after the bad one
 /// assert_eq!(Reader::new(&file[..]).take_while(Result::is_ok).count(), 20);
 /// assert_eq!(Reader::new(&mended[..]).filter(Result::is_ok).count(), 40);
 /// # Ok::<(), RescueError>(())
 /// ```
 ///
-/// The report has an entry for every block where much is wrong, and is held in memory; [`rescue_with`]
-/// hands the entries on one by one. All else that is said there holds here.
+/// The report is in memory and may have an entry for every block. [`rescue_with`] passes the entries on one
+/// by one instead; everything else in its description applies here too.
 pub fn rescue<R: Read + Seek, W: Write>(
     damaged: R,
     mended: W,
@@ -149,8 +149,8 @@ pub fn rescue<R: Read + Seek, W: Write>(
     Ok(report)
 }
 
-/// Rescues a damaged narration as [`rescue`] does and hands on the report's entries as they come, so that
-/// a narration of any length takes the same little memory.
+/// Rescues a damaged narration as [`rescue`] does, but passes each entry of the report to a function at
+/// once. So the memory in use does not grow with the narration.
 ///
 /// ```
 /// use gillsextant::narration::{rescue_with, Record, RescueError, Writer};
@@ -161,7 +161,7 @@ pub fn rescue<R: Read + Seek, W: Write>(
 /// #     writer.push(&Record::default()).unwrap();
 /// # }
 /// # let mut file = writer.finish().unwrap();
-/// file[..512].fill(0); // the first of three blocks is a hole
+/// file[..512].fill(0); // the first of three blocks is all zeros
 ///
 /// let (mut mended, mut report) = (Vec::new(), Vec::new());
 /// rescue_with(Cursor::new(file), &mut mended, |entry| writeln!(report, "{entry}"))?;
@@ -172,18 +172,17 @@ pub fn rescue<R: Read + Seek, W: Write>(
 /// # Ok::<(), RescueError>(())
 /// ```
 ///
-/// The damaged narration is read from where it stands to its end, and then once more from there: the first
-/// time to count the blocks to keep, so that too many of them are refused before anything is written or
-/// reported. The mended one is flushed at the end. To have either again afterwards, lend it:
+/// This reads the damaged narration twice, from its current position to its end. The first reading counts
+/// the blocks to keep, so that too many are refused before anything is written or reported. At the end the
+/// mended narration is flushed. To keep using either of them afterwards, pass references:
 /// `rescue(&mut file, &mut mended)`.
 ///
-/// An error in the second reading leaves what was written and reported before it. The blocks that were
-/// written whole are a sound narration by themselves, and nobody can tell from it that others should
-/// follow. So write to a file of another name, and give it its own when the rescue is over.
+/// An error in the second reading leaves what was written and reported before it. The blocks written so far
+/// are a sound narration that does not show that others are missing. So write to a temporary name, and
+/// rename the file when the rescue has succeeded.
 ///
-/// Each block is asked for by itself and handed on whole, by one `write_all`; a `BufReader` and a
-/// `BufWriter` in between save system calls. A read that is interrupted is tried again, and one that gives
-/// less than it was asked for is gone on with.
+/// Each block is read by itself and written with one `write_all`; a `BufReader` and a `BufWriter` in between
+/// save system calls. An interrupted read is tried again, and a short read is continued.
 pub fn rescue_with<R: Read + Seek, W: Write>(
     mut damaged: R,
     mut mended: W,
@@ -200,13 +199,13 @@ pub fn rescue_with<R: Read + Seek, W: Write>(
     );
     match written {
         Ok(totals) if totals == counted => mended.flush().map_err(RescueError::Write),
-        // There were not too many when they were counted.
+        // The first reading did not find too many.
         Ok(_) | Err(RescueError::TooMany) => Err(RescueError::Changed),
         Err(error) => Err(error),
     }
 }
 
-/// What one reading has found.
+/// The totals of one reading.
 #[derive(Default, PartialEq, Eq)]
 struct Totals {
     blocks: u64,
@@ -214,8 +213,8 @@ struct Totals {
     stray: usize,
 }
 
-/// Reads a damaged narration to its end, and hands on each block that is kept, as it becomes, and each
-/// entry of the report.
+/// Reads a damaged narration to its end. Passes on each kept block in its mended form, and each entry of the
+/// report.
 fn go_through(
     damaged: &mut impl Read,
     mut keep: impl FnMut(&[u8; BLOCK_SIZE]) -> Result<(), RescueError>,
@@ -240,7 +239,7 @@ fn go_through(
                     report(RescueEntry::Renumbered { place, from, to })?;
                 }
             }
-            // The bytes are a whole block, so it is the number that is too large.
+            // The bytes are a whole block, so the number of the call is too large.
             Err(BlockRefusal::Length) => return Err(RescueError::TooMany),
             Err(why) => report(RescueEntry::Dropped { place, why })?,
         }

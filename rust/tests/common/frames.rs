@@ -1,6 +1,6 @@
-//! Frames that are saved before a line and restarted there. Whatever is asked of a frame, what must hold
-//! of every such call is looked at here: the spectrum keeps its bits, so does an output below the line,
-//! and lines that no filter has are copied.
+//! Frames that are saved before a line and restarted there. Each call here also checks what must hold for every
+//! such call: the spectrum keeps its bits, so does the output below the line, and lines outside the filters are
+//! copied.
 
 use super::{bits_of, Record, BANDWIDTHS, DURATIONS};
 use gillsextant::{decode_restart, decode_save, Refusal, Saved};
@@ -25,8 +25,8 @@ const BANDS: [[&[(usize, usize)]; 5]; 2] = [
 /// The longest spectrum, by duration.
 const LONGEST: [usize; 2] = [400, 300];
 
-/// NaNs of many bits, quiet and signalling by turns: a line that is written becomes another, and one
-/// that is copied stays the same only if nothing is computed with it.
+/// NaNs with many bits, alternately quiet and signalling. A line that is written becomes another, and a line
+/// that is copied keeps its bits only if nothing is computed with it.
 pub fn pattern(length: usize) -> Vec<f32> {
     (0..length as u32)
         .map(|n| f32::from_bits(0x7fa5_0000 | (n % 2) << 22 | n))

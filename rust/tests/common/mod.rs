@@ -1,6 +1,6 @@
-//! What the test files share: the lists of `crates/prog_replay/data` (their form stands in
-//! `oracle/README.md`), read record by record, ways to compare lines, frames to restart, the gate's model
-//! of narration files, and streams that come in pieces or fail.
+//! What the test files share: the lists of `crates/prog_replay/data` (`oracle/README.md` has their form), read
+//! record by record, ways to compare lines, frames to restart, the gate's model of narration files, and streams
+//! that give or take pieces or fail.
 #![allow(dead_code)] // each test file uses a part of it
 
 pub mod frames;
@@ -52,7 +52,7 @@ impl List {
     }
 }
 
-/// What the crate calls a refusal that is told by its numbers.
+/// The crate's refusal with these numbers.
 pub fn refusal_of(number: u16, place: u16, found: u16) -> Refusal {
     match number {
         1 => Refusal::Duration,
@@ -82,16 +82,15 @@ pub struct Record {
     pub bit_number: u64,
     /// The lines before; of a save or a restart the spectrum, which stays so.
     pub before: Vec<f32>,
-    /// These three are of save and restart records alone: the line, and what is lent for the output and
-    /// the states.
+    /// Only in save and restart records: the line, and the buffers for the output and the states.
     pub line: usize,
     pub output: Vec<f32>,
     pub states: Vec<f32>,
     pub answer: Result<u16, Refusal>,
-    /// These two are of encode records alone.
+    /// Only in encode records, these two.
     pub side: Vec<u8>,
     pub coefficients: Vec<f32>,
-    /// Of save and restart records alone.
+    /// Only in save and restart records.
     pub states_after: Vec<f32>,
     /// The lines afterwards; of a save or a restart those of the output.
     pub after: Vec<f32>,

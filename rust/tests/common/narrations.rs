@@ -1,13 +1,13 @@
-//! The gate's model of narration files, asked what it makes of records, blocks and files: the C program
-//! `tests/narration.c`, which shares nothing with the library. The layout, the sums and the costs stand there,
-//! not here. Each test file has it built once, with cc or what HOSTCC or else CC names, and one process answers
+//! The gate's model of narration files: the C program `tests/narration.c`, which shares nothing with the
+//! library. It has the layout, the sums and the costs; this file only asks it about records, blocks and files.
+//! Each test file builds it once, with cc or the compiler that HOSTCC or else CC names, and one process answers
 //! all questions.
 
 use std::io::{BufReader, Read, Write};
 use std::process::{Child, ChildStdin, ChildStdout, Command, Stdio};
 use std::sync::{Mutex, OnceLock};
 
-/// A record as it stands in memory and in a file.
+/// A record as it is in memory and in a file.
 pub type Bytes = [u8; 24];
 pub type Block = [u8; 512];
 
@@ -86,7 +86,7 @@ pub fn record(n: usize) -> Bytes {
     RECORDS.get_or_init(|| records_of(&made('n', 5000, &[])))[n % 5000]
 }
 
-/// The first so many of them.
+/// The first of them, this many.
 pub fn records(count: usize) -> Vec<Bytes> {
     records_from(0, count)
 }
@@ -133,7 +133,7 @@ pub fn file(records: &[Bytes]) -> Vec<u8> {
     made('b', 0, &records.concat())
 }
 
-/// The number that stands in a block.
+/// The number in a block.
 pub fn number_in(block: &[u8]) -> u16 {
     u16::from_le_bytes([block[0], block[1]])
 }

@@ -1,5 +1,5 @@
-//! A stream that is hard on whoever reads or writes it: bytes that come or go in pieces, with
-//! interruptions, and that fail, are other bytes when they are read again, or keep count of what is done.
+//! A difficult stream for readers and writers: its bytes come or go in pieces, with interruptions. It can also
+//! fail, give other bytes at a second reading, or count what is done with it.
 
 use std::io::{self, ErrorKind, Read, Seek, SeekFrom, Write};
 
@@ -13,9 +13,9 @@ pub struct Pieces {
     pub interrupts: bool,
     pub interrupted: bool,
     pub fails_at: usize,
-    /// How many seeks succeed before one fails. Asking where it stands is one.
+    /// How many seeks succeed before one fails. Asking for the position is one.
     pub seeks: usize,
-    /// What it is from the moment on when it is sought back.
+    /// What it becomes when it is sought back.
     pub again: Option<Box<Pieces>>,
     /// How many bytes it is offered in each write, and how many it has at each flush.
     pub offered: Vec<usize>,
