@@ -51,7 +51,7 @@ class Panel:
         middle = (self.top + self.bottom) / 2
         out.append(
             f'<text x="22" y="{middle}" font-size="12" fill="{INK}" text-anchor="middle" '
-            f'transform="rotate(-90 22 {middle})">their time / port\'s time</text>'
+            f'transform="rotate(-90 22 {middle})">time of the other / of this library</text>'
         )
         for n, (ms, bw) in enumerate(ROWS):
             x = LEFT + (n + 0.5) * self.group

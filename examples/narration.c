@@ -49,7 +49,7 @@ static int read_file(const uint8_t *file, size_t len, const uint8_t *records, in
         if (a.refusal)
             printf("refused %d at block %d; ", a.refusal, (int)number);
         if (a.records == 0) { /* refused, or the end */
-            printf("%d records stand, %d of them changed\n", count, *wrong);
+            printf("%d records read, %d of them changed\n", count, *wrong);
             return count;
         }
         for (int i = 0; i < a.records; i++, count++)

@@ -109,7 +109,7 @@ int main(void)
     seal(file + 4 * TNS_BLOCK_SIZE);
     const size_t len = 6 * TNS_BLOCK_SIZE + STRAY;        /* block 6: only its first bytes are left */
     count = read_file(file, len, found, &refusal);
-    printf("damaged: %d records stand, then refused %d\n", count, refusal);
+    printf("damaged: %d records read, then refused %d\n", count, refusal);
     bad += count != 20 || refusal != TNS_BLOCK_SUMS;
 
     size_t mended_len = rescue_file(file, len, mended, &lines, &refusal);
@@ -123,7 +123,7 @@ int main(void)
         wrong += memcmp(found + i * TNS_RECORD_SIZE, records + frame * TNS_RECORD_SIZE,
                         TNS_RECORD_SIZE) != 0;
     }
-    printf("mended: %d records stand, %d of them changed\n", count, wrong);
+    printf("mended: %d records read, %d of them changed\n", count, wrong);
     bad += refusal != TNS_ACCEPTED || count != 60 || wrong != 0;
 
     size_t again_len = rescue_file(mended, mended_len, again, &lines, &refusal);

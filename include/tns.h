@@ -47,14 +47,14 @@ enum {
     TNS_ACCEPTED = 0,
     TNS_DURATION = 1,        /* neither 0 (10 ms) nor 1 (7.5 ms) */
     TNS_BANDWIDTH = 2,       /* over 4; 0 to 4 are NB, WB, SSWB, SWB, FB */
-    TNS_SPECTRUM_LENGTH = 3, /* ends before the row's last band, or over 400 lines (7.5 ms: 300) */
+    TNS_SPECTRUM_LENGTH = 3, /* ends before the last band does, or over 400 lines (7.5 ms: 300) */
     TNS_LIST_LENGTH = 4,     /* not two orders, or not sixteen indices */
     TNS_FILTER_COUNT = 5,    /* over 2 */
     TNS_ORDER = 6,           /* an order over 8; its place is 0 or 1 */
     TNS_INDEX = 7,           /* an index over 16; its place is 0 to 15 */
     TNS_WEIGHTING = 8,       /* over 1 */
     TNS_BLOCK_LENGTH = 9,    /* a block cut short, or a block number over 65535 */
-    TNS_BLOCK_SUMS = 10,     /* the checksum (the two sums) does not match the bytes */
+    TNS_BLOCK_SUMS = 10,     /* a checksum (one of the two sums) is wrong */
     TNS_BLOCK_LAYOUT = 11,   /* wrong header, padding (fill) not zero, or, in a read, another number */
     TNS_BLOCK_RECORD = 12,   /* a record out of range or cut short, or its bits are not its cost */
     TNS_LINE = 16,           /* below the row's first start, or over its last stop */
@@ -139,7 +139,7 @@ tns_answer tns_decode_save(uint8_t duration, uint8_t bandwidth, uint8_t filters,
  *
  * - the spectrum's length, the duration, the bandwidth and the filter count;
  * - every line below n;
- * - the orders and indices of every filter whose band starts below n.
+ * - order and indices of each filter that has a line below n in its band.
  *
  * Any other eight states are accepted too, NaN and infinities included; the lattice then continues from
  * those. examples/mend.c mends the upper half of a frame. docs/RULES.md, "Restart at a line (C-22)". */
@@ -211,7 +211,7 @@ typedef struct {
 
 /* Rescues one block of a damaged file. Checks the bytes as tns_block_read does, except that they may have
  * any block number. The call reads at most 512 bytes. An accepted call writes all 512 bytes of the block:
- * the number of the call, bytes 2 to 507 unchanged, and a new checksum. The order of its refusals:
+ * the number of the call, bytes 2 to 507 unchanged, and new checksums. The order of its refusals:
  *
  *     9         fewer than 512 bytes, also at length 0
  *     10 to 12  the first fault in the bytes

@@ -31,7 +31,7 @@ FAMILIES = [
     ("direct", "#e69f00", "7 3", "lattice alone, chosen coefficients and lines"),
     ("encoder search", "#0072b2", "", "encoder, searched for the worst"),
     ("hard", "#009e73", "2 2", "encoder, frames made to be hard"),
-    ("drawn", "#a0568a", "", "encoder, frames of the word encode"),
+    ("drawn", "#a0568a", "", "encoder, drawn frames"),
 ]
 
 

@@ -22,8 +22,8 @@
 //! If the upper part of a frame changes, [`decode_restart`] decodes only that part, from the states that
 //! [`decode_save`] saved.
 //!
-//! The module [`narration`] keeps the side data of many frames in a file of blocks. Each block has a
-//! checksum that detects a changed byte. The module also rescues the sound blocks of a damaged file.
+//! The module [`narration`] keeps the side data of many frames in a file of blocks. Each block has
+//! two checksums that detect a changed byte. The module also rescues the sound blocks of a damaged file.
 //!
 //! You may call from any thread, whatever its float environment: from an audio thread with flush-to-zero
 //! and denormals-are-zero, for instance. Each call sets the default environment and restores the thread's

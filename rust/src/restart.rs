@@ -105,7 +105,7 @@ pub fn decode_save(
 ///
 /// - the spectrum's length, the duration, the bandwidth and the number of filters;
 /// - every line below the saved line;
-/// - the orders and indices of every filter whose band starts below the saved line.
+/// - order and indices of each filter that has a line below the saved one in its band.
 ///
 /// Any other states are accepted too, and the filters continue from those. The refusals are those of
 /// [`decode_save`].

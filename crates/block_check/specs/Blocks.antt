@@ -7,7 +7,7 @@ use lib.ListN.{length, take}
 use Rattle.check_verdicts.specs.Verdicts.{Verdict, accepted, check}
 use Rattle.block_parts.specs.Parts.{recordsIn, sumsRight, headerRight, numberRight, fillRight, soundRecords, blockBytes}
 
--- what reading block `number` gives, its records, or refuses. 9: short, or a block too many. 10: sums wrong. 11: header, number or fill wrong. 12: a
+-- what reading block `number` gives, its records, or refuses. 9: too few bytes, or a number too high. 10: a wrong sum. 11: a wrong header, number or fill. 12: a
 -- record that is not sound
 unfoldable pub blockVerdict : ℕ → List ℕ → Verdict (List ℕ)
 blockVerdict number block =

@@ -1,4 +1,4 @@
--- docs/RULES.md, "Block files (C-11)", the two sums modulo 65521: the plain sum, and the sum of (508 - place) times byte.
+-- docs/RULES.md, "Block files (C-11)", the two sums modulo 65521: of the bytes, and of each byte times its weight, 508 less its place.
 use mathlib.Core.List.{List, [], _∷_}
 use Prim.Native.Nat.{ℕ, suc, _+_, _-_, _*_, _%_}
 use Rattle.law_lists.specs.Counted.{total}

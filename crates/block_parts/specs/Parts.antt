@@ -19,7 +19,7 @@ use Rattle.block_record.specs.RecordBytes.{soundRecord}
 abbrev pub countOf : List ℕ → ℕ
 countOf records = length records / 24
 
--- after the number: record count and edition 1, one byte each, four zeros
+-- behind the number: a byte with the record count, one with the edition, and zeros up to byte 8
 abbrev pub headerBytes : ℕ → List ℕ
 headerBytes count = count ∷ 1 ∷ 0 ∷ 0 ∷ 0 ∷ 0 ∷ []
 

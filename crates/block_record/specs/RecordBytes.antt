@@ -16,7 +16,7 @@ pub record Recorded : Type 0 where
   pub side : Fields
   pub bits : ℕ
 
--- duration, bandwidth, filter count, weighting, two orders, sixteen indices, and the bit cost as u16
+-- a byte for each number up to the last index, and two for the bits
 abbrev pub recordedOf : List ℕ → Recorded
 recordedOf bytes =
     record {

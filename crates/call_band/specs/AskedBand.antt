@@ -9,7 +9,7 @@ use Rattle.row_bands.specs.Bands.{bandOf, noBand, inside}
 use Rattle.row_bands.specs.declared.Band.{Band}
 use Rattle.check_frame.specs.Frames.{frameOf}
 
--- the band that a caller asks for: none where the row has no such band or where refusal 1, 2 or 3 would be given
+-- the band that a caller asks for: empty if the row lacks it, or if the frame fails one of checks 1 to 3
 abbrev pub askedBand : ℕ → ℕ → ℕ → ℕ → Band
 askedBand duration bandwidth filter lines = unlessRefused (frameOf duration bandwidth lines) (λ row. bandOf row filter) noBand
 

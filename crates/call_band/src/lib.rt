@@ -46,7 +46,7 @@ pub fn asked_band(duration: u8, bandwidth: u8, filter: u8, lines: usize) -> Band
     }
 }
 
-// The band itself: that part of the caller's own spectrum, or an empty part. What it holds and where it
+// The band itself, as a part of the caller's own spectrum; it may be empty. What it holds and where it
 // lies is promised. Of the other lines nothing is: the language says nothing of a `&mut` parameter that
 // goes into the result (docs/DECISIONS.md).
 pub fn band_lines(duration: u8, bandwidth: u8, filter: u8, lines: &mut [f32]) -> &mut [f32]

@@ -1,4 +1,4 @@
--- docs/RULES.md, "Lattices": a count of 2 on a one-band row acts once, so the decode call leaves what it leaves with a count of 1.
+-- docs/RULES.md, "Lattices": on a row of one band a count of 2 works like a count of 1, for the whole decode call.
 use mathlib.Core.Path.{_≡_, refl}
 use mathlib.Core.List.{List}
 use Prim.Native.Nat.{ℕ}

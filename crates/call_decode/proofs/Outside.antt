@@ -1,4 +1,4 @@
--- docs/RULES.md, "Band rows": lines outside the bands never change and affect nothing. The laws of any call that filters its bands, of the decode
+-- docs/RULES.md, "Band rows": no line outside the bands changes, and no result depends on one. The laws of any call that filters its bands, of the decode
 -- call.
 use mathlib.Core.Path.{_≡_, ap}
 use mathlib.Core.List.{List}

@@ -1,4 +1,4 @@
--- docs/RULES.md, "Band rows": lines outside the bands never change and affect nothing. The laws of any call that filters its bands, of the encode
+-- docs/RULES.md, "Band rows": no line outside the bands changes, and no result depends on one. The laws of any call that filters its bands, of the encode
 -- call; and its analysis, too, depends on the lines of the bands alone.
 use mathlib.Core.Path.{_≡_, refl, sym, _∙_, ap}
 use mathlib.Core.Bool.{Bool}

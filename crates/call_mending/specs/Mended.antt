@@ -17,7 +17,7 @@ orderAt frame k = getD (frame .orders) k 0
 abbrev pub indicesAt : CodedFrame → ℕ → List ℕ
 indicesAt frame k = take 8 (drop (8 * k) (frame .indices))
 
--- The frames agree on length, duration, bandwidth, filter count, all lines below n, and the orders and indices of every filter whose band begins below
+-- The two frames have the same length, duration, bandwidth and filter count, the same lines below n, and the same order and indices for a filter that begins below
 -- n. A filter without a band, and one that is not counted, may be anything.
 pub record AgreeBelow (n : ℕ) (old new : CodedFrame) : Type 0 where
   pub lengths : length (old .spectrum) ≡ length (new .spectrum)

@@ -12,7 +12,7 @@ use Rattle.row_bands.specs.declared.Row.{Row}
 use Rattle.check_frame.specs.declared.FrameAnswer.{FrameAnswer}
 use Rattle.check_frame.specs.declared.FrameAnswer.the-variants.{Sound, Refused}
 
--- 3: spectrum shorter than the row's last stop, or longer than the duration's longest
+-- 3: the spectrum ends before the row's last stop, or has more lines than the duration allows
 abbrev pub lengthCheck : {A : Type 0} → Duration → ℕ → ℕ → Verdict A → Verdict A
 lengthCheck duration bandwidth lines next = check 3 (ltb lines (lastStop (rowOf duration bandwidth)) || ltb (numbersOf duration .longest) lines) next
 

@@ -1,4 +1,4 @@
--- docs/RULES.md, "Refusal numbers": the lowest bad place, with the number found there.
+-- docs/RULES.md, "Refusal numbers": where the first number over a limit is, and what it is.
 use mathlib.Core.Bool.{Bool, true, false, cond}
 use mathlib.Core.List.{List, [], _∷_}
 use Prim.Native.Nat.{ℕ, suc}

@@ -15,7 +15,7 @@ use Rattle.check_line.specs.declared.LineRefusal.the-variants.{Call, Lin
 use Rattle.check_line.specs.declared.LineCheck.{LineCheck}
 use Rattle.check_line.specs.declared.LineCheck.the-variants.{Sound, Refused}
 
--- 16: line n below the row's first start, or over its last stop. 17: an output of another length than the spectrum
+-- 16: line n below the row's first start, or over its last stop. 17: spectrum and output differ in length
 abbrev pub lineChecks : {A : Type 0} → Row → ℕ → ℕ → ℕ → Verdict A → Verdict A
 lineChecks row lines n output next =
     check 16 (ltb n (row .first .start) || ltb (lastStop row) n)

@@ -22,7 +22,7 @@ checkAt number (At place found) next = refused (placed number place found)
 abbrev pub codeChecks : {A : Type 0} → ℕ → ℕ → Verdict A → Verdict A
 codeChecks duration bandwidth next = check 1 (ltb 1 duration) (check 2 (ltb 4 bandwidth) next)
 
--- 4: orders not 2 long, or indices not 16 long. 5: filter count over 2. 6: an order over 8, used or not. 7: an index over 16, used or not
+-- 4: not two orders, or not sixteen indices. 5: a filter count above 2. 6: an order above 8. 7: an index above 16; of 6 and 7 also what no filter uses
 unfoldable pub sideChecks : {A : Type 0} → ℕ → List ℕ → List ℕ → Verdict A → Verdict A
 sideChecks filters orders indices next =
     check 4 (not (eqb (length orders) 2) || not (eqb (length indices) 16))

@@ -58,7 +58,7 @@ itsBits bits = bits
 abbrev pub bitsIn : {A : Type 0} → (A → ℕ) → Verdict A → ℕ
 bitsIn bits verdict = unlessRefused verdict bits 0
 
--- Checks run in number order and the first stands: one that finds no fault leaves the answer to what follows.
+-- One check after the other, by number: the first that finds a fault decides, and one that finds none leaves the answer to what follows.
 abbrev pub check : {A : Type 0} → ℕ → Bool → Verdict A → Verdict A
 check number bad next = cond bad (refused (numbered number)) next
 

@@ -12,7 +12,7 @@ orderCost weighting order = ofOrder orderBits weighting order
 unfoldable pub indexCosts : List ℕ → ℕ
 indexCosts indices = cellsFrom coefBits 0 indices
 
--- order cost + cost of indices below the order, in 2048ths
+-- in 2048ths: the cost of the order, and of each index at a place below it
 unfoldable pub filterCost : ℕ → ℕ → List ℕ → ℕ
 filterCost weighting order indices = orderCost weighting order + indexCosts (take order indices)
 

@@ -33,7 +33,7 @@ pub frequencies-sum : every sums orderFreq && every sums coefFreq ≡ true
 unfolding sums
 frequencies-sum = refl
 
--- every cumulative row starts at 0 and rises by the frequency before it
+-- each number of a cumulative row is the total of the frequencies before it, from 0 on
 pub cumulatives-rise : allRise orderFreq orderCumfreq && allRise coefFreq coefCumfreq ≡ true
 unfolding allRise
 cumulatives-rise = refl

@@ -5,7 +5,7 @@ use Prim.Native.Nat.{ℕ}
 use Rattle.check_verdicts.specs.Verdicts.{Fault, numbered, placed, Verdict, refused, numberOf, placeOf, ofFault, unlessRefused}
 use Rattle.check_verdicts.proofs.Verdicts.{settle}
 
--- a line of a text, and the first byte in it that cannot stand there; or too much of it
+-- a line of a text that is refused at one of its bytes; or too much of it
 data TextRefusal : Type 0 where
   badLine : ℕ → ℕ → TextRefusal
   tooLong : TextRefusal

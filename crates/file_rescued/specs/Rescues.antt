@@ -94,6 +94,6 @@ pub record Rescued : Type 0 where
 abbrev pub rescued : List ℕ → Rescued
 rescued file = record { mended = numberedFrom 0 (keptOf (portions 512 file)); report = reportFrom 0 0 (portions 512 file) }
 
--- "more than 65,536 blocks to keep still refuses the call with 9"
+-- refused with 9 if there are more kept blocks than numbers
 unfoldable pub rescueOf : List ℕ → Verdict Rescued
 rescueOf file = check 9 (ltb 65536 (length (keptOf (portions 512 file)))) (accepted (rescued file))

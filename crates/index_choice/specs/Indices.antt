@@ -28,14 +28,14 @@ unfoldable pub notAbove : Float → List Float → ℕ
 notAbove x [] = 0
 notAbove x (t ∷ ts) = cond (le t x) 1 0 + notAbove x ts
 
--- x in 0..1 gives 8 plus the number of thresholds not above x; x in -1..0 gives 8 minus that number for -x. NaN or |x| > 1 gives 8
+-- From 0 to 1: 8 and one more for each threshold that is at most x. From -1 to 0: 8 and one less for each that is at most -x. Everything else, NaN too: 8
 unfoldable pub indexOf : Float → ℕ
 indexOf x =
     cond (le f0 x && le x f1) (8 + notAbove x thresholds)
     (cond (le (neg f1) x && le x f0) (8 - notAbove (neg x) thresholds)
     8)
 
--- the last place whose index isn't 8, counted from 1, or what was found before: `passed` places lie behind
+-- the last place that does not hold 8, counted from 1, or what was found before: `passed` places lie behind
 unfoldable pub orderFrom : ℕ → ℕ → List ℕ → ℕ
 orderFrom passed found [] = found
 orderFrom passed found (i ∷ is) = orderFrom (suc passed) (cond (eqb i 8) found (suc passed)) is

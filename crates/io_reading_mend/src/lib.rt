@@ -4,9 +4,9 @@
 //
 // The inner functions have a `requires`: the sizes of the three pieces, a place that leaves room for those of
 // one more, a number that there is or the one after the last, less than a block held, a read left to make, at most
-// 255 records for each block that is kept, and for `is_put` no more put than its pieces have. So `mend_pass` begins, and so each turn is proved to leave it where it
-// goes on. That a read stays within its piece is a promise of io_streams, and what was put is counted by
-// io_rescue's.
+// 255 records for each block that is kept, and for `is_put` no more put than its pieces have. So `mend_pass` begins,
+// and so each turn is proved to leave it where it goes on. That a read stays within its piece is a promise of
+// io_streams, and what was put is counted by io_rescue's.
 use file_kept::count_kept;
 use file_kept::count_records;
 use io_names::complain_of_change;

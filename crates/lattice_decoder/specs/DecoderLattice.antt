@@ -10,7 +10,7 @@ use Rattle.lattice_lines.specs.declared.Passed.{Passed}
 abbrev pub passing : Float → List Float → Passed
 passing t states = record { t = t; states = states }
 
--- t = t - q·state[k], then state[k+1] = q·t + state[k]
+-- one stage: a new t, and from it the state of the next stage up
 unfoldable pub stageDown : Float → ℕ → Passed → Passed
 stageDown q k p =
     let old = getD (p .states) k nan in
@@ -22,7 +22,7 @@ unfoldable pub stagesBelow : List Float → ℕ → Passed → Passed
 stagesBelow q zero p = p
 stagesBelow q (suc k) p = stagesBelow q k (stageDown (getD q k nan) k p)
 
--- t = line - q·state at the last stage; downwards; the line and state[0] become t. A filter of order 0 changes neither line nor state.
+-- From the last stage, which has no state to set, down to the first; then t is the line and the first state. A filter of order 0 does nothing.
 unfoldable pub lineDecoded : List Float → ℕ → List Float → Float → Passed
 lineDecoded q zero states line = passing line states
 lineDecoded q (suc k) states line =

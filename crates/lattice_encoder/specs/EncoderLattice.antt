@@ -7,7 +7,7 @@ use Rattle.law_rounding.specs.Floats.{_⊕_, _⊗_}
 use Rattle.lattice_lines.specs.declared.Passed.{Passed}
 use Rattle.lattice_encoder.specs.declared.Passing.{Passing}
 
--- new b = q·t + state, then t = t + q·state (old state); the state takes the old b
+-- one stage: t and b anew, both from the old t and the old state; the old b becomes the state
 unfoldable pub stageUp : Float → ℕ → Passing → Passing
 stageUp q k p =
     let old = getD (p .states) k nan in
@@ -22,7 +22,7 @@ stagesTo q (suc k) p = stageUp (getD q k nan) k (stagesTo q k p)
 abbrev pub entering : Float → List Float → Passing
 entering line states = record { t = line; b = line; states = states }
 
--- Each stage below order - 1. The last stage does t = t + q·state, then stores b. The line becomes t.
+-- All stages but the last are full ones. The last makes no new b: its t is the line, and b becomes its state.
 -- A filter of order 0 changes neither line nor state.
 unfoldable pub lineEncoded : List Float → ℕ → List Float → Float → Passed
 lineEncoded q zero states line = record { t = line; states = states }

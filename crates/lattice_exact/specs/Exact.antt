@@ -1,5 +1,5 @@
 -- docs/RULES.md, "The exact lattice": the encoder's rule over lists of whole numbers, without rounding.
--- Lines count units of 2^-149, coefficients 2^-26, results 2^-357. A product with a coefficient counts units 2^26 times finer than its other
+-- The units are 2^-149 for lines, 2^-26 for coefficients and 2^-357 for results. A product with a coefficient counts units 2^26 times finer than its other
 -- factor, so what it is added to is first expressed in those. So t and b count units of 2^-(149+26k) when k stages are done, and state k always does.
 use mathlib.Core.List.{List}
 use Prim.Native.Nat.{ℕ, zero, suc, _-_, _*_, _^_}
@@ -21,7 +21,7 @@ pub record ExactPassed : Type 0 where
   pub t : ℤ
   pub states : List ℤ
 
--- new b = q·t + state, then t = t + q·state (old state); the state takes the old b
+-- one stage: t and b anew, both from the old t and the old state; the old b becomes the state
 unfoldable pub exactStage : ℤ → ℕ → ExactPassing → ExactPassing
 exactStage q k p =
     let old = getD (p .states) k (pos 0) in
@@ -40,7 +40,7 @@ exactStagesTo q (suc k) p = exactStage (getD q k (pos 0)) k (exactStagesTo q k p
 abbrev pub exactEntering : ℤ → List ℤ → ExactPassing
 exactEntering line states = record { t = line; b = line; states = states }
 
--- Each stage below order - 1. The last stage does t = t + q·state, then stores b. The line becomes t.
+-- All stages but the last are full ones. The last makes no new b: its t is the line, and b becomes its state.
 -- A filter of order 0 changes neither line nor state.
 unfoldable pub lineExact : List ℤ → ℕ → List ℤ → ℤ → ExactPassed
 lineExact q zero states line = record { t = line; states = states }
@@ -56,6 +56,6 @@ linesExact q order =
 unfoldable pub statesExact : List ℤ → ℕ → List ℤ → List ℤ → List ℤ
 statesExact q order = stateThrough (λ states line. lineExact q order states line .states)
 
--- eight state numbers start at 0 and carry from filter 0 into filter 1
+-- both filters, from eight states of 0; the second goes on with what the first leaves
 abbrev pub exactRest : List ℤ
 exactRest = replicate 8 (pos 0)

@@ -1,4 +1,4 @@
--- A filter of order 0 changes neither lines nor states: one law over the lattice, which both keep.
+-- A filter of order 0 leaves lines and states alone: one law over the lattice, which both keep.
 use mathlib.Core.Path.{_≡_, ap}
 use mathlib.Core.List.{List}
 use lib.Ieee.{Float, nan}

@@ -1,4 +1,4 @@
--- docs/RULES.md, "Band rows": lines outside the bands never change and affect nothing. The laws are of any call that checks its frame and then has
+-- docs/RULES.md, "Band rows": no line outside the bands changes, and no result depends on one. The laws are of any call that checks its frame and then has
 -- filters act on the bands of its row, whatever decides the filters; a refused call changes no line at all. Decode and encode are two of them.
 use mathlib.Core.Path.{_≡_, refl, _∙_}
 use mathlib.Core.List.{List}

@@ -1,6 +1,6 @@
 -- Any two results that a contract allows for one input coincide: one law, cited for each public function of every crate. A function's `Post` is
 -- its `ensures` as the checker reads it off the source. A result that the contract equates with a definition says itself. An answer that is an
--- enum says the numbers of docs/RULES.md, and these give the answer back. There is one NaN in the logic, so a NaN result would leave its bits open.
+-- enum says the numbers of docs/RULES.md, and these give the answer back. The logic knows a single NaN: of a NaN result the bits stay open.
 use mathlib.Core.Path.{_≡_, refl, sym, _∙_, ap}
 use mathlib.Core.List.{List}
 use Prim.Native.Nat.{ℕ}

@@ -74,7 +74,7 @@ fn make(input: i32, damaged: &[u8], mended: &[u8], counted: Standing, progress: 
     let output = make_part(mended, &mut number);
     if output < 0 {
         if os::errno() == libc::EEXIST {
-            complain_of(mended, b": too many parts of files stand beside it\n");
+            complain_of(mended, b": too many part files beside it\n");
         } else {
             failed_at(mended);
         }

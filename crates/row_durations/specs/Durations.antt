@@ -5,7 +5,7 @@ use lib.Dec.{ltb}
 use Rattle.row_durations.specs.declared.Duration.{Duration}
 use Rattle.row_durations.specs.declared.Duration.the-variants.{Ten, SevenPointFive}
 
--- each duration keeps its own first line, longest spectrum and weighting limit
+-- the numbers of a duration: where its first band begins, how many lines it allows, its limit for the weighting
 pub record DurationNumbers : Type 0 where
   pub firstLine : ℕ
   pub longest : ℕ
@@ -21,6 +21,6 @@ abbrev pub durationOf : ℕ → Duration
 durationOf zero = Ten
 durationOf (suc code) = SevenPointFive
 
--- weighting is 1 if the bit number is below the limit, else 0
+-- 1 for a frame of fewer bits than the limit, else 0
 unfoldable pub weightingOf : DurationNumbers → ℕ → ℕ
 weightingOf d nbits = cond (ltb nbits (d .weightingLimit)) 1 0

@@ -18,15 +18,15 @@ f0-85 = ofBits binary32 0x3f59999a
 abbrev pub f0-5 : Float
 f0-5 = ofBits binary32 0x3f000000
 
--- r[0]/error, or r[0] where the error is zero
+-- r[0] divided by the error; an error of zero divides nothing
 unfoldable pub gainOf : Float → Float → Float
 gainOf r0 error = cond (eq error f0) r0 (r0 ⊘ error)
 
--- on exactly if gain > 1.5 and the Nyquist flag is off; a NaN gain means off
+-- a gain over 1.5, which a NaN is not, without the flag
 unfoldable pub isOn : Float → Bool → Bool
 isOn gain flag = lt f1-5 gain && not flag
 
--- 1 - (1 - 0.85)·(2 - gain)/0.5 where the filter is on, weighting is 1 and gain < 2; otherwise 1
+-- less than 1 only for a filter that is on, at weighting 1, with a gain below 2
 unfoldable pub dampingOf : Float → Bool → ℕ → Float
 dampingOf gain on weighting =
     cond (on && (eqb weighting 1 && lt gain f2)) (f1 ⊖ (f1 ⊖ f0-85) ⊗ (f2 ⊖ gain) ⊘ f0-5) f1

@@ -25,11 +25,11 @@ lagWindow =
     map (ofBits binary32)
     (0x3f800000 ∷ 0x3f7f7ec4 ∷ 0x3f7dfc96 ∷ 0x3f7b7e04 ∷ 0x3f780a8a ∷ 0x3f73ac6e ∷ 0x3f6e708e ∷ 0x3f68661f ∷ 0x3f619e65 ∷ [])
 
--- lag 0 is 3 and the others 0
+-- of a silent band: 3, and then zeros
 abbrev pub whereSilent : ℕ → Float
 whereSilent k = cond (eqb k 0) (ofBits binary32 0x40400000) f0
 
--- Each subband adds ac/es. If the float product of the three energies compares equal to zero, also by underflow, lag 0 is 3 and the others 0.
+-- Each subband adds its sum over its energy. A band is silent if the f32 product of the three energies is zero, which can be by underflow.
 -- Then the lag window.
 unfoldable pub normalizedLag : List Float → List Float → List Float → ℕ → Float
 normalizedLag xs ys zs k =

@@ -7,7 +7,7 @@ use lib.Ieee.{Float}
 use Rattle.law_rounding.specs.Floats.{_⊖_, _⊗_, _⊘_, f0, f1}
 use Rattle.law_lists.specs.Places.{at, tab}
 
--- x to the e: start at 1, multiply by the running square wherever the exponent's bit is 1, low bit first. The exponents here have at most four bits.
+-- x to the e, bit by bit from the lowest: a bit of 1 multiplies by x squared as often as there are bits below it. The exponents here have at most four bits.
 unfoldable pub powerFrom : ℕ → Float → Float → ℕ → Float
 powerFrom zero product square e = product
 powerFrom (suc bits) product square e = powerFrom bits (cond (eqb (e % 2) 1) (product ⊗ square) product) (square ⊗ square) (e / 2)

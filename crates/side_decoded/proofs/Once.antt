@@ -1,4 +1,4 @@
--- docs/RULES.md, "Lattices": a count of 2 on a one-band row acts once. It leaves what a count of 1 does, whatever the second filter's order and
+-- docs/RULES.md, "Lattices": on a row of one band a count of 2 works like a count of 1, whatever the second filter's order and
 -- indices.
 use mathlib.Core.Path.{_≡_, sym, _∙_}
 use mathlib.Core.List.{List}

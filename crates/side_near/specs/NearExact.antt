@@ -33,7 +33,7 @@ secondExact row side lines = linesExact (coefficientsOf (side .second)) (side .s
 
 -- ---- demand 3
 
--- the lines from the first band's start to the last band's end are finite and at most 2^m in size
+-- no line from the first band's start to the last band's end is NaN, infinite or larger than 2^m
 abbrev pub LinesAtMost : ℤ → Row → List Float → Type 0
 LinesAtMost m row lines = (j : ℕ) → row .first .start ≤ j → j < lastStop row → AtMost m (getD lines j nan)
 

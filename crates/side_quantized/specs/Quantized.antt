@@ -13,6 +13,6 @@ quantizedOf reflections =
     let indices = map indexOf reflections in
     record { order = orderOf indices; indices = indices; coefficients = map coefficientOf indices }
 
--- a filter that the row doesn't have gets order 0, eights and zeros
+-- in place of a filter without a band: order 0, indices of 8, coefficients of 0
 unfoldable pub absent : Quantized
 absent = record { order = 0; indices = replicate 8 8; coefficients = replicate 8 f0 }

@@ -5,7 +5,7 @@ use Rattle.check_verdicts.specs.Verdicts.{numbered, placed, Verdict, accepted, 
 use Rattle.cost_bytes.specs.SideBytes.{Line, short, costs}
 use Rattle.text_put.specs.Text.{ascii, decimal}
 
--- it always says "bits", also for 1; refusals 6 and 7 end with their place, the others after their number
+-- "bits" even for one; a place behind refusals 6 and 7 alone
 abbrev pub answerText : Verdict ℕ → List ℕ
 answerText (accepted bits) = decimal bits ++ ascii " bits"
 answerText (refused (numbered number)) = ascii "refused " ++ decimal number

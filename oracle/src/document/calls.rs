@@ -54,7 +54,7 @@ pub struct Mended {
 impl Mended {
     /// Whether the frames agree as they must (docs/RULES.md, "Restart at a line
     /// (C-22)"): on the row, the length, the filter count, all lines below the line,
-    /// and the orders and indices of every filter whose band starts below it.
+    /// and order and indices of each filter that has such a line in its band.
     pub fn agree(&self) -> bool {
         let Mended { old, new, line } = self;
         let bits = |call: &Decode| -> Vec<u32> {

@@ -24,7 +24,7 @@ fn whole(q: f32) -> i64 {
 }
 
 /// The exact lines, in units of 2^-357. The eight states carry from band to
-/// band; a filter of order 0 changes neither lines nor states.
+/// band; a filter of order 0 leaves both alone.
 pub fn lines(filters: &Filters, before: &[f32]) -> Vec<Vec<Whole>> {
     let mut state = [Whole::ZERO; 8];
     let bands = filters.bands.iter().enumerate();

@@ -3,8 +3,7 @@
 use crate::document::side::Side;
 use original_std::tables::temporal_noise_shaping_tables as table;
 
-/// Start at 1, multiply by the running square wherever the exponent's bit is 1,
-/// low bit first.
+/// A power by repeated squaring, from the exponent's lowest bit on.
 pub fn power(base: f32, exponent: usize) -> f32 {
     let mut result = 1.0f32;
     let mut square = base;
@@ -49,8 +48,8 @@ pub fn index(thresholds: &[u32; 8], magnitude: u32, negative: bool) -> usize {
     }
 }
 
-/// The gain of the recursion over nine lags: r[0]/error, or r[0] where the error
-/// is zero.
+/// The gain of the recursion over nine lags: r[0] divided by the error, if that
+/// is not zero.
 pub fn gain(lags: &[f32; 9]) -> f32 {
     let mut a = [0.0f32; 9];
     a[0] = 1.0;
