@@ -68,7 +68,8 @@ typedef struct {
     uint16_t bits;    /* an accepted encode or cost: the bits, at most 168; else 0 */
 } tns_answer;
 
-#ifdef __x86_64__
+#if defined __x86_64__ && (defined __cplusplus || !defined __STRICT_ANSI__ || \
+                           (defined __STDC_VERSION__ && __STDC_VERSION__ >= 199901L))
 /* The guard of the float environment. tns_float_enter returns the caller's control word (MXCSR) and, if
  * the environment is not the default, sets the default. tns_float_leave takes that word and restores it.
  * If the caller's environment is the default, the pair only reads the word and compares it. Pairs may be
@@ -83,7 +84,8 @@ typedef struct {
  * The guard is assembly for the sake of its memory clobber: the compiler must assume that it reads and
  * writes any memory, as a call of the library may. So no such call crosses either end, nor does a load or
  * store of its lists. _mm_setcsr is no such barrier: gcc moves loads across it. Other processors than
- * x86-64 have no archive and no guard; the rest of the header compiles there. */
+ * x86-64 have no archive and no guard, and strict C90 (-std=c90), which lacks inline, has no guard; the
+ * rest of the header compiles there. */
 static inline uint32_t tns_float_enter(void)
 {
     const uint32_t standard = 0x1f80u; /* to nearest, subnormals kept, exceptions masked, no flag set */

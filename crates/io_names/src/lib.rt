@@ -12,6 +12,8 @@ ghost use mathlib.Core.Path.{_≡_};
 ghost use Rattle.text_put.specs.Text.{Puts};
 ghost use Rattle.io_names.specs.Looks.{lookOf};
 ghost use Rattle.io_names.specs.Said.{saidText};
+ghost use Rattle.io_names.specs.Opened.{isApart};
+ghost use mathlib.Core.Bool.{true};
 
 // What a look at a name finds: that nothing has it, that something has, or neither.
 enum Look {
@@ -61,7 +63,9 @@ pub fn complain_of_change(name: &[u8]) {
 // Opens a file to be read, and answers its descriptor, or one below 0 where it cannot be; that is said. A caller may
 // have closed descriptors that programs write to, 1 to 3: the file is opened until those are taken, so that what is
 // written there goes into no file that is made.
-pub fn opened(path: &[u8]) -> i32 {
+pub fn opened(path: &[u8]) -> i32
+    ensures { λ r. ⌜ isApart r ≡ true ⌝ }
+{
     let mut taken = 0u64;
     while taken < 5 {
         let descriptor = os::open_read(path);

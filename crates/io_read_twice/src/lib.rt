@@ -20,6 +20,7 @@ ghost use mathlib.Core.Path.{_≡_};
 ghost use mathlib.Core.Bool.{true};
 ghost use Prim.Native.Nat.{_≤_};
 ghost use Rattle.io_reading.specs.Stands.{sameTotals};
+ghost use Rattle.io_reading_mend.specs.SecondReading.{Reached};
 ghost use Rattle.text_put.specs.Text.{Puts};
 ghost use Rattle.io_read_twice.specs.Summed.{notWell, sumText};
 
@@ -63,7 +64,7 @@ fn broken_off(mending: Mending) -> Mending
 }
 
 // The second reading, into the file that is made, if one is. Where it is well it has found as many blocks, kept
-// blocks and bytes left over as the first.
+// blocks and bytes left over as the first, and what it answers is the sum of what came of its reads.
 pub fn second_reading(
     input: i32,
     name: &[u8],
@@ -73,7 +74,7 @@ pub fn second_reading(
     counted: Standing,
     progress: Progress,
 ) -> Mending
-    ensures { λ r. ⌜ (r .standing .«is_well» ≡ true → sameTotals counted (r .standing) ≡ true) ⌝ }
+    ensures { λ r. ⌜ (r .standing .«is_well» ≡ true → (sameTotals counted (r .standing) ≡ true) × Reached r) ⌝ }
 {
     if !is_at_start(input, name) {
         return Mending {

@@ -1,6 +1,6 @@
 -- Whatever a read gives: what there is to write and to say lies within its pieces, a turn adds 120 blocks at most and holds less than one, there is a
 -- number for every block that is kept, whether or not it could be written, and no such block has more than 255 records.
-use mathlib.Core.Path.{_≡_, refl}
+use mathlib.Core.Path.{_≡_, refl, sym, _∙_, ap, subst}
 use mathlib.Core.Bool.{Bool, true, false}
 use mathlib.Core.List.{List}
 use Prim.Native.Nat.{ℕ, _+_, _-_, _*_, _≤_, _<_}
@@ -9,14 +9,14 @@ use lib.ListN.{length, take, length-take}
 use Rattle.io.specs.Counts.{Counts}
 use Rattle.io.proofs.Counting.{counts}
 use Rattle.io_rest.proofs.Rests.{rest-below}
-use Rattle.io_streams.specs.Reads.{Within}
+use Rattle.io_streams.specs.Reads.{Within, mostReads}
 use Rattle.file_kept.proofs.PieceBounds.{records-255}
 use Rattle.io_streams.specs.declared.Read.{Read}
 use Rattle.io_streams.specs.declared.Read.the-variants as read
 use Rattle.io_reading.specs.Stands.{afterWrite, afterRead}
 use Rattle.io_reading.specs.declared.Standing.{Standing}
 use Rattle.io_reading.proofs.Ends.{stays}
-use Rattle.io_reading_mend.specs.SecondReading.{wholeBlocks, hasNumbers, Breaks, TakesPiece, MendsPiece, MendsRead, tallied, Turns}
+use Rattle.io_reading_mend.specs.SecondReading.{wholeBlocks, hasNumbers, Breaks, TakesPiece, MendsPiece, MendsRead, tallied, Turn, Turns}
 use Rattle.io_reading_mend.specs.declared.Mending.{Mending}
 use Rattle.io_reading_mend.specs.declared.Turned.{Turned}
 
@@ -83,16 +83,33 @@ written-in-range true standing records stands result e h = rw e h
 written-in-range false standing records stands result e h = rw e (record { place = h .place; kept = h .kept; held = h .held; reads = h .reads; few = h .few })
 
 -- once the read is counted, and what came of it is added
-pub turns : (mending : Mending) (turned : Turned) (stands next : Standing) (result : Mending) → mending .records ≤ 255 * mending .standing .kept
-    → InRange (mending .standing) (turned .records) stands → next ≡ afterRead stands → result ≡ tallied mending turned next → Turns mending result
-turns mending turned stands next result fewer r e added =
-    let s = stays stands next e in
-    rw added
-    (record {
-      place = omega (arith, s .place, r .place);
-      kept = omega (arith, s .kept, r .kept);
-      held = omega (arith, s .held, r .held);
-      reads = omega (arith, s .reads, r .reads);
-      left = s .left;
-      records = omega (arith, s .kept, r .few);
-    })
+module _ (mending : Mending) (turned : Turned) (stands next : Standing) (counts : next ≡ afterRead stands) where
+  pub one-turn : (got : Read) (found left output report : List ℕ) (written : Bool) (result : Mending) → MendsRead got (mending .standing) found left output report turned
+      → stands ≡ afterWrite written (turned .standing) → result ≡ tallied mending turned next → Turn mending result
+  one-turn got found left output report written result answers writes added =
+      record {
+        got = got;
+        found = found;
+        left = left;
+        output = output;
+        report = report;
+        turned = turned;
+        written = written;
+        answers = answers;
+        adds = added ∙ ap (tallied mending turned) (counts ∙ ap afterRead writes);
+      }
+
+  pub turns : mending .records ≤ 255 * mending .standing .kept → InRange (mending .standing) (turned .records) stands → (result : Mending) → result ≡ tallied mending turned next
+      → Turn mending result → Turns mending result
+  turns fewer r result added turn =
+      let s = stays stands next counts in
+      let same = ap (λ (m : Mending). m .standing) added in
+      record {
+        place = omega (arith, s .place, r .place, ap (λ (m : Mending). m .standing .place) added);
+        kept = omega (arith, s .kept, r .kept, ap (λ (m : Mending). m .standing .kept) added);
+        held = omega (arith, s .held, r .held, ap (λ (m : Mending). m .standing .held) added);
+        reads = omega (arith, s .reads, r .reads, ap (λ (m : Mending). m .standing .reads) added);
+        left = λ on. subst (λ (x : Standing). x .reads < mostReads) (sym same) (s .left (ap (λ (x : Standing). x .«goes_on») (sym same) ∙ on));
+        records = omega (arith, s .kept, r .few, ap (λ (m : Mending). m .standing .kept) added, ap (λ (m : Mending). m .records) added);
+        turn = turn;
+      }

@@ -1,7 +1,7 @@
 -- What the second reading makes of a piece of the damaged file, of what is left over at its end, of what a read gives, and in a turn; and what it adds up.
 use mathlib.Core.Path.{_≡_}
 use mathlib.Core.Bool.{Bool, true, false, _||_}
-use mathlib.Core.List.{List}
+use mathlib.Core.List.{List, [], _∷_}
 use Prim.Native.Nat.{ℕ, _+_, _*_, _≤_, _<_}
 use lib.Dec.{leb, ltb}
 use lib.ListN.{take}
@@ -13,7 +13,7 @@ use Rattle.io_streams.specs.declared.Read.{Read}
 use Rattle.io_streams.specs.declared.Read.the-variants.{Bytes, End, Failed}
 use Rattle.io_rescue.specs.RescueSteps.{RescuesPiece}
 use Rattle.io_reading.specs.Stands as stands
-use Rattle.io_reading.specs.Stands.{endedAs}
+use Rattle.io_reading.specs.Stands.{endedAs, afterWrite, afterRead}
 use Rattle.io_reading.specs.Passes.{Passes}
 use Rattle.io_reading.specs.declared.Standing.{Standing}
 use Rattle.io_reading_mend.specs.declared.Mending.{Mending}
@@ -72,6 +72,28 @@ abbrev pub tallied : Mending → Turned → Standing → Mending
 tallied mending turned standing =
     record { standing = standing; records = mending .records + turned .records; «is_reported» = mending .«is_reported» || ltb 0 (turned .taken .lines) }
 
+-- what comes of one read is added, by what the read gave and whether all that there was to write was written
+pub record Turn (mending result : Mending) : Type 0 where
+  pub got : Read
+  pub found : List ℕ
+  pub left : List ℕ
+  pub output : List ℕ
+  pub report : List ℕ
+  pub turned : Turned
+  pub written : Bool
+  pub answers : MendsRead got (mending .standing) found left output report turned
+  pub adds : result ≡ tallied mending turned (afterRead (afterWrite written (turned .standing)))
+
+-- the start, or a turn after an earlier one; the last is named first
+abbrev pub Came : List Mending → Mending → Type 0
+Came [] result = result ≡ atStart
+Came (before ∷ earlier) result = Turn before result × Came earlier before
+
+-- reached from the start by turns, so that all that was found is the sum of what came of the reads
+pub record Reached (result : Mending) : Type 0 where
+  pub earlier : List Mending
+  pub came : Came earlier result
+
 -- a turn makes one read more, adds the blocks of a piece at most, has a number for every block that is kept, holds less than a block, and where it goes
 -- on a read is left to make; and no kept block has more than 255 records
 pub record Turns (mending result : Mending) : Type 0 where
@@ -81,3 +103,4 @@ pub record Turns (mending result : Mending) : Type 0 where
   pub reads : result .standing .reads ≡ mending .standing .reads + 1
   pub left : result .standing .«goes_on» ≡ true → result .standing .reads < mostReads
   pub records : result .records ≤ 255 * result .standing .kept
+  pub turn : Turn mending result

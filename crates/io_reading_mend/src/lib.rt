@@ -34,7 +34,7 @@ ghost use Prim.Native.Nat.{_*_, _≤_, _<_};
 ghost use lib.ListN.{length};
 ghost use Rattle.io.specs.Counts.{Counts};
 ghost use Rattle.io_streams.specs.Reads.{Within, mostReads};
-ghost use Rattle.io_reading_mend.specs.SecondReading.{wholeBlocks, hasNumbers, MendsPiece, TellsRest, Breaks, TakesPiece, MendsRead, atStart, tallied, Turns};
+ghost use Rattle.io_reading_mend.specs.SecondReading.{wholeBlocks, hasNumbers, MendsPiece, TellsRest, Breaks, TakesPiece, MendsRead, atStart, tallied, Turns, Reached};
 
 // Where the second reading stands: as a reading does, how many records the blocks have that are kept so far, and
 // whether the report has a line.
@@ -276,7 +276,7 @@ pub fn mend_pass(
     made_name: &[u8],
     progress: Progress,
 ) -> Mending
-    ensures { λ r. ⌜ r .standing .«goes_on» ≡ false ⌝ }
+    ensures { λ r. ⌜ (r .standing .«goes_on» ≡ false) × Reached r ⌝ }
 {
     let mut input = [0u8; 61440];
     let mut output = [0u8; 61440];

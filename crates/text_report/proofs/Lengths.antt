@@ -1,4 +1,4 @@
--- Laws of the report's text: that of entries after others, and that no line has more than 83 bytes.
+-- Laws of the report's text: that of entries after others, that no line has more than 83 bytes, and that a report without text has no entry.
 use mathlib.Core.Path.{_≡_, refl, sym, _∙_, ap}
 use mathlib.Core.Bool.{Bool, true, false, cond}
 use mathlib.Core.List.{List, [], _∷_, _++_, append-assoc}
@@ -39,3 +39,14 @@ entries-at-most place number portion (accepted kept) = by (eqb (numberIn portion
     by true = no-line
     by false = one-line (moved place (numberIn portion) number)
 entries-at-most place number portion (refused fault) = one-line (cond (ltb (length portion) 512) (stray (length portion)) (dropped place fault))
+
+-- every entry has a line, so that an empty text is that of an empty report
+entry-some : (entry : Entry) → 1 ≤ length (entryText entry)
+entry-some (dropped place fault) = simp length-append (omega arith)
+entry-some (moved place old new) = simp length-append (omega arith)
+entry-some (stray count) = simp length-append (omega arith)
+
+pub text-none : (entries : List Entry) → length (reportText entries) ≡ 0 → entries ≡ []
+unfolding reportText
+text-none [] e = refl
+text-none (entry ∷ entries) e = absurd (omega (arith, entry-some entry, length-append (entryText entry) (reportText entries)))

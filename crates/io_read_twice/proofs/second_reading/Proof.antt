@@ -1,4 +1,4 @@
--- It is well only where both readings found the same.
+-- It is well only where both readings found the same; and then it is the second, as it was.
 use mathlib.Core.Path.{sym, _∙_, ap}
 use mathlib.Core.Bool.{false≢true}
 use borrow.Author.Needs.{needs}
@@ -15,7 +15,7 @@ returns-2 : tie.Need-returns-2
 returns-2 c = λ well. absurd (false≢true (sym (not-true (c .before .before .mend-pass .result .standing .«is_well») (c .if2 .taken)) ∙ well))
 
 returns-3 : tie.Need-returns-3
-returns-3 c = λ well. sym (c .before .is-same .ensures) ∙ c .if3 .taken
+returns-3 c = λ well. (sym (c .before .is-same .ensures) ∙ c .if3 .taken, c .before .before .before .before .mend-pass .ensures .1)
 
 returns-4 : tie.Need-returns-4
 returns-4 c = λ well. absurd (false≢true (sym (ap (λ (m : Mending). m .standing .«is_well») (c .broken-off .ensures)) ∙ well))

@@ -1,11 +1,13 @@
 -- It ends: where it goes on a read is left to make. No number wraps: a read adds 120 at most.
 use mathlib.Core.Path.{_≡_, ap}
 use mathlib.Core.Bool.{true}
+use mathlib.Core.List.{[], _∷_}
 use Prim.Native.Nat.{_-_, _*_, _≤_, _<_}
 use native.Mathlib.Omega.{arith}
 use borrow.Author.Needs.{needs}
 use lib.ListN.{length}
 use Rattle.io_streams.specs.Reads.{mostReads}
+use Rattle.io_reading_mend.specs.SecondReading.{Reached}
 use Rattle.io_reading_mend.specs.declared.Mending.{Mending}
 use Rattle.io_reading_mend.proofs.mend_pass.Statement.{statement}
 use Rattle.io_reading_mend.proofs.mend_pass.Tie as tie
@@ -14,7 +16,7 @@ abbrev Inv-loop : tie.InvT-loop
 Inv-loop descriptor name is-made made made-name progress input₀ output₀ report₀ mending₀ shows₀ input output report mending shows =
     (length input ≡ 61440) × (length output ≡ 61440) × (length report ≡ 9960) × (mending .standing .held < 512) × (mending .standing .kept ≤ 65536)
     × (mending .standing .place ≤ 120 * mending .standing .reads) × (mending .standing .«goes_on» ≡ true → mending .standing .reads < mostReads)
-    × (mending .records ≤ 255 * mending .standing .kept)
+    × (mending .records ≤ 255 * mending .standing .kept) × Reached mending
 
 abbrev μ-loop : tie.MeasureT-loop
 μ-loop descriptor name is-made made made-name progress input₀ output₀ report₀ mending₀ shows₀ input output report mending shows = mostReads - mending .standing .reads
@@ -31,6 +33,7 @@ loop-holds c =
       omega (arith, ap (λ (m : Mending). m .standing .place) begins),
       (λ on. omega (arith, reads)),
       omega (arith, ap (λ (m : Mending). m .records) begins),
+      record { earlier = []; came = begins },
     )
 
 -- a read is left to make
@@ -59,7 +62,10 @@ loop-again c =
     let turned = c .before .before .before .before .before .before in
     let l = turned .before .before .before .before .before .loop in
     let t = turned .mend-turn .ensures in
-    (omega arith, omega arith, omega arith, t .held, t .kept, omega (arith, t .place, t .reads, l .inv .5), t .left, t .records)
+    (omega arith, omega arith, omega arith, t .held, t .kept, omega (arith, t .place, t .reads, l .inv .5), t .left, t .records, record { earlier = l .mending ∷ l .inv .8 .earlier; came = (t .turn, l .inv .8 .came) })
+
+returns : tie.Need-returns Inv-loop μ-loop
+returns c = (c .before .loop-test .left, c .before .before .loop .inv .8)
 
 pub mend-pass-spec : {M : Type 1} → statement M
 mend-pass-spec =
@@ -78,4 +84,4 @@ mend-pass-spec =
     loop-less
     loop-again
     (λ c κs. search needs)
-    (λ c. search needs))
+    returns)

@@ -1,7 +1,7 @@
 -- Whatever the read gives is answered, written as far as can be, counted as a read, and added up.
 use native.Mathlib.Omega.{arith}
 use borrow.Author.Needs.{needs}
-use Rattle.io_reading_mend.proofs.MendTurns.{InRange, put-counted, still-in-range, written-in-range, turns}
+use Rattle.io_reading_mend.proofs.MendTurns.{InRange, put-counted, still-in-range, written-in-range, one-turn, turns}
 use Rattle.io_reading_mend.proofs.mend_turn.Statement.{statement}
 use Rattle.io_reading_mend.proofs.mend_turn.Tie as tie
 
@@ -50,8 +50,15 @@ returns c =
     let next = c .before in
     let settled = next .before in
     let called = settled .before .before .before .before .before .before .before .before .before .before .before .before .before in
-    let start = called .before .before .before .before .before .before .before .before .before .before .before .before .before .before in
-    turns (start .args .mending) (called .answered .result) (settled .after-write .result) (next .after-read .result) (c .added .result) (start .pre .7) (in-range settled) (next .after-read .ensures) (c .added .ensures)
+    let asked = called .before .before .before .before .before .before in
+    let start = asked .before .before .before .before .before .before .before .before in
+    let mending = start .args .mending in
+    let turned = called .answered .result in
+    let stands = settled .after-write .result in
+    let counts = next .after-read .ensures in
+    turns mending turned stands (next .after-read .result) counts (start .pre .7) (in-range settled) (c .added .result) (c .added .ensures)
+    (one-turn mending turned stands (next .after-read .result) counts (asked .read-named .result) (asked .read-named .last .1 .1 .1 .0) _ _ _ (settled .before .is-put .result) (c .added .result)
+    (called .answered .ensures) (settled .after-write .ensures) (c .added .ensures))
 
 pub mend-turn-spec : {M : Type 1} → statement M
 mend-turn-spec =
