@@ -1,21 +1,20 @@
 -- Laws of the cost that callers use in place of its text: two filters within the limits cost at most 168 bits, and what the cost call says is one
 -- of five refusals or the bits of sound side data. They rest on the laws of one filter.
-use mathlib.Core.Path.{_≡_}
+use mathlib.Core.Path.{_≡_, _∙_, ap}
 use mathlib.Core.List.{List}
 use Prim.Native.Nat.{ℕ, zero, suc, _+_, _*_, _≤_, _<_}
 use lib.Dec.{ltb}
 use native.Mathlib.Omega.{arith}
 use lib.ListN.{getD, take, drop}
-use lib.Seq.{getD-drop}
+use lib.Seq.{getD-drop, drop-drop}
 use Rattle.law_lists.specs.Counted.{counted, total}
-use Rattle.law_lists.proofs.Counted.{none-of-them, one-of-them, two-of-them}
 use Rattle.check_verdicts.specs.Verdicts.{numbered, placed, Verdict, accepted, refused, bitsIn, itsBits}
 use Rattle.check_side.specs.Sides.{SoundSide}
 use Rattle.check_verdicts.proofs.Verdicts.{check-by}
 use Rattle.check_side.proofs.Checks.{sides-by}
 use Rattle.check_limits.proofs.Stands.{none-over}
 use Rattle.cost_filter.specs.FilterCost.{filterBits}
-use Rattle.cost_filter.proofs.FilterCosts.{filter-bits-at-most}
+use Rattle.cost_filter.proofs.FilterCosts.{filter-cost-affordable, filter-bits-at-most}
 use Rattle.cost_call.specs.Cost.{countedBits, costOf}
 
 -- at most 84 bits for each counted filter
@@ -57,16 +56,26 @@ cost-at-most weighting filters orders indices =
     (omega arith)
     (counted-at-most weighting filters orders indices)
 
--- ---- the bits of no filter, of the first, and of the first two
-pub none-counted : (weighting : ℕ) (orders indices : List ℕ) → countedBits weighting 0 orders indices ≡ 0
-unfolding countedBits total
-none-counted weighting orders indices = rw (none-of-them (filterBits weighting) orders indices)
+-- ---- the bits, filter by filter
 
-pub one-counted : (weighting : ℕ) (orders indices : List ℕ) → countedBits weighting 1 orders indices ≡ filterBits weighting (getD orders 0 0) (take 8 indices)
-unfolding countedBits total
-one-counted weighting orders indices = rw (one-of-them (filterBits weighting) orders indices) (omega arith)
+-- one filter more: its bits are added
+pub one-more : (weighting n : ℕ) (orders indices : List ℕ)
+    → countedBits weighting (suc n) orders indices ≡ countedBits weighting n orders indices + filterBits weighting (getD orders n 0) (take 8 (drop (8 * n) indices))
+unfolding countedBits counted total
+one-more weighting zero orders indices = omega arith
+one-more weighting (suc n) orders indices =
+    let next : 1 + n ≡ suc n = omega arith in
+    let order : getD (drop 1 orders) n 0 ≡ getD orders (suc n) 0 = getD-drop 1 orders n 0 ∙ ap (λ (k : ℕ). getD orders k 0) next in
+    let far : 8 + 8 * n ≡ 8 * suc n = omega arith in
+    let eight : drop (8 * n) (drop 8 indices) ≡ drop (8 * suc n) indices = drop-drop (8 * n) 8 indices ∙ ap (λ (k : ℕ). drop k indices) far in
+    omega (
+      arith,
+      one-more weighting n (drop 1 orders) (drop 8 indices),
+      ap (λ (k : ℕ). filterBits weighting k (take 8 (drop (8 * n) (drop 8 indices)))) order,
+      ap (λ (l : List ℕ). filterBits weighting (getD orders (suc n) 0) (take 8 l)) eight,
+    )
 
-pub two-counted : (weighting : ℕ) (orders indices : List ℕ)
-    → countedBits weighting 2 orders indices ≡ filterBits weighting (getD orders 0 0) (take 8 indices) + filterBits weighting (getD orders 1 0) (take 8 (drop 8 indices))
-unfolding countedBits total
-two-counted weighting orders indices = rw (two-of-them (filterBits weighting) orders indices) (omega arith)
+-- no filter's bits are many, whatever its order
+pub few-bits : (weighting order : ℕ) (indices : List ℕ) → order ≤ 255 → filterBits weighting order indices ≤ 2561
+unfolding filterBits
+few-bits weighting order indices h = omega (arith, filter-cost-affordable weighting order indices)

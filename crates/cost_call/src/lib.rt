@@ -5,7 +5,8 @@ use check_side::SideAnswer;
 use check_side::check_side;
 use cost_filter::filter_bits;
 ghost use mathlib.Core.Path.{_≡_};
-ghost use Rattle.check_side.specs.Sides.{SoundSide};
+ghost use Prim.Native.Nat.{_≤_};
+ghost use lib.ListN.{length};
 ghost use Rattle.cost_call.specs.Cost.{countedBits, costOf, Priced};
 
 // The answer of `cost`: the bits, or why there are none.
@@ -14,19 +15,19 @@ pub enum CostAnswer {
     Refused(Refusal),
 }
 
-// The bits of the counted filters.
-fn counted_bits(weighting: u8, filters: u8, orders: &[u8], indices: &[u8]) -> u16
-    requires { ⌜ SoundSide filters (now orders) (now indices) ⌝ }
+// The bits of the counted filters, for the cost call and for the analysis of a frame. It requires what both
+// have made sure of: at most two filters, two orders and sixteen indices.
+pub fn counted_bits(weighting: u8, filters: u8, orders: &[u8], indices: &[u8]) -> u16
+    requires { ⌜ (filters ≤ 2) × (length (now orders) ≡ 2) × (length (now indices) ≡ 16) ⌝ }
     ensures { λ r. ⌜ r ≡ countedBits weighting filters (now (orders .entry)) (now (indices .entry)) ⌝ }
 {
-    if filters == 0 {
-        return 0;
+    let mut bits = 0u16;
+    for filter in 0..filters as usize {
+        let from = 8 * filter;
+        let end = from + 8;
+        bits = bits + filter_bits(weighting, orders[filter], &indices[from..end]);
     }
-    let first = filter_bits(weighting, orders[0], &indices[0..8]);
-    if filters == 1 {
-        return first;
-    }
-    first + filter_bits(weighting, orders[1], &indices[8..16])
+    bits
 }
 
 // The cost of a frame's side data, for any numbers and lists of any lengths: refusals 4 to 8, or the

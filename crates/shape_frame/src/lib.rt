@@ -1,11 +1,12 @@
 // The analysis of a frame: a filter for each band of its row, analysed by shape_filter and quantized, and
 // what the side data costs. It assumes a frame that the encode call has checked: the row is one of the
 // table's, and its lines are there.
-use cost_filter::filter_bits;
+use cost_call::counted_bits;
 use row_bands::Band;
 use row_bands::Row;
 use shape_filter::analyse;
 use side_data::SideData;
+use side_data::bytes_of;
 use side_quantized::Quantized;
 use side_quantized::none;
 use side_quantized::quantize_all;
@@ -68,20 +69,14 @@ fn side_of(lines: &[f32], row: Row, flag: bool, weighting: u8) -> SideData
     }
 }
 
-// The bits of one filter or of two, each rounded up by itself.
+// The bits of the side data, whose 20 bytes have both filters' orders and indices one after the other.
 fn side_bits(side: SideData) -> u16
     requires { ⌜ Reported side ⌝ }
     ensures { λ r. ⌜ r ≡ bitsOf side ⌝ }
 {
-    let first = side.first;
-    let i = first.indices;
-    let bits = filter_bits(side.weighting, first.order, &i);
-    if side.filters == 1 {
-        return bits;
-    }
-    let second = side.second;
-    let j = second.indices;
-    bits + filter_bits(side.weighting, second.order, &j)
+    let all = bytes_of(side);
+    let bytes = &all[0..20];
+    counted_bits(side.weighting, side.filters, &bytes[2..4], &bytes[4..20])
 }
 
 // The side data of a frame, and their bits. The `requires` is what the encode call has checked: the row
