@@ -28,7 +28,8 @@ use Rattle.call_decode.specs.Decoder.{decodeChecks, spectrumDecoded}
 use Rattle.call_decode.proofs.DecodedFrames.{accepted-spectrum}
 use Rattle.call_encode.specs.Encoder.{weightingIn, encodeVerdict}
 use Rattle.call_encode.proofs.NearFound.{filter-of-table, second-of-table}
-use Rattle.call_encode.proofs.Reported.{reported-sound, sound-passes}
+use Rattle.call_encode.proofs.Reported.{sound-passes}
+use Rattle.shape_frame.proofs.FrameLimits.{side-sound}
 use Rattle.call_round_trip.specs.TakenBack.{coefficientsTaken, filtersTaken, filtersMeant, TakenBack}
 
 -- ---- any two filters whose coefficients are their indices'
@@ -75,7 +76,7 @@ module _ (duration bandwidth nbits : ℕ) (flag : Bool) (lines : List Float) whe
   module _ (passes : frameChecks duration bandwidth (length lines) noFault ≡ noFault) where
     no-refusal : decodeChecks duration bandwidth (reported .filters) (ordersIn reported) (indicesIn reported) (length lines) ≡ noFault
     unfolding decodeChecks
-    no-refusal = rw (sound-passes _ _ _ (reported-sound row lines flag weighting) noFault) passes
+    no-refusal = rw (sound-passes _ _ _ (side-sound row lines flag weighting) noFault) passes
 
     decoded-by-them : (found : List Float) → length found ≡ length lines
         → spectrumDecoded duration bandwidth (reported .filters) (ordersIn reported) (indicesIn reported) found

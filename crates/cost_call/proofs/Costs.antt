@@ -1,6 +1,6 @@
 -- Laws of the cost that callers use in place of its text: two filters within the limits cost at most 168 bits, and what the cost call says is one
 -- of five refusals or the bits of sound side data. They rest on the laws of one filter.
-use mathlib.Core.Path.{_≡_, _∙_, ap}
+use mathlib.Core.Path.{_≡_, refl, _∙_, ap}
 use mathlib.Core.List.{List}
 use Prim.Native.Nat.{ℕ, zero, suc, _+_, _*_, _≤_, _<_}
 use lib.Dec.{ltb}
@@ -14,7 +14,7 @@ use Rattle.check_verdicts.proofs.Verdicts.{check-by}
 use Rattle.check_side.proofs.Checks.{sides-by}
 use Rattle.check_limits.proofs.Stands.{none-over}
 use Rattle.cost_filter.specs.FilterCost.{filterBits}
-use Rattle.cost_filter.proofs.FilterCosts.{filter-cost-affordable, filter-bits-at-most}
+use Rattle.cost_filter.proofs.FilterCosts.{off-bits, filter-bits-at-most}
 use Rattle.cost_call.specs.Cost.{countedBits, costOf}
 
 -- at most 84 bits for each counted filter
@@ -75,7 +75,11 @@ one-more weighting (suc n) orders indices =
       ap (λ (l : List ℕ). filterBits weighting (getD orders (suc n) 0) (take 8 l)) eight,
     )
 
--- no filter's bits are many, whatever its order
-pub few-bits : (weighting order : ℕ) (indices : List ℕ) → order ≤ 255 → filterBits weighting order indices ≤ 2561
-unfolding filterBits
-few-bits weighting order indices h = omega (arith, filter-cost-affordable weighting order indices)
+-- filters that are off cost a bit each
+pub all-off : (weighting n : ℕ) (orders indices : List ℕ) → ((i : ℕ) → getD orders i 0 ≡ 0) → countedBits weighting n orders indices ≡ n
+unfolding countedBits counted total
+all-off weighting zero orders indices off = refl
+all-off weighting (suc n) orders indices off =
+    let next = all-off weighting n orders indices off in
+    let bit : filterBits weighting (getD orders n 0) (take 8 (drop (8 * n) indices)) ≡ 1 = rw (off n) (off-bits weighting (take 8 (drop (8 * n) indices))) in
+    omega (arith, one-more weighting n orders indices, next, bit)

@@ -4,9 +4,9 @@ use check_refusals::Refusal;
 use check_side::SideAnswer;
 use check_side::check_side;
 use cost_filter::filter_bits;
+use cost_tables::coef_costs;
 ghost use mathlib.Core.Path.{_≡_};
-ghost use Prim.Native.Nat.{_≤_};
-ghost use lib.ListN.{length};
+ghost use Rattle.check_side.specs.Sides.{SoundSide};
 ghost use Rattle.cost_call.specs.Cost.{countedBits, costOf, Priced};
 
 // The answer of `cost`: the bits, or why there are none.
@@ -15,17 +15,22 @@ pub enum CostAnswer {
     Refused(Refusal),
 }
 
-// The bits of the counted filters, for the cost call and for the analysis of a frame. It requires what both
-// have made sure of: at most two filters, two orders and sixteen indices.
+// The bits of the counted filters of side data that the cost call has checked, or that the analysis of a
+// frame has made. If both filters are off, each costs its one bit and nothing is looked up. If not, the
+// costs are bound once and lent for each filter.
 pub fn counted_bits(weighting: u8, filters: u8, orders: &[u8], indices: &[u8]) -> u16
-    requires { ⌜ (filters ≤ 2) × (length (now orders) ≡ 2) × (length (now indices) ≡ 16) ⌝ }
+    requires { ⌜ SoundSide filters (now orders) (now indices) ⌝ }
     ensures { λ r. ⌜ r ≡ countedBits weighting filters (now (orders .entry)) (now (indices .entry)) ⌝ }
 {
+    if orders[0] == 0 && orders[1] == 0 {
+        return filters as u16;
+    }
+    let costs = coef_costs();
     let mut bits = 0u16;
     for filter in 0..filters as usize {
         let from = 8 * filter;
         let end = from + 8;
-        bits = bits + filter_bits(weighting, orders[filter], &indices[from..end]);
+        bits = bits + filter_bits(&costs, weighting, orders[filter], &indices[from..end]);
     }
     bits
 }

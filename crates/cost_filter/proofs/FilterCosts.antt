@@ -1,11 +1,22 @@
 -- Laws of a filter's cost that callers use in place of its text: a filter within the limits costs at most 84 bits, and every sum on the way is
 -- below 2 ^ 24. Each rests on a law of the tables.
+use mathlib.Core.Path.{_≡_, refl}
 use mathlib.Core.List.{List}
 use Prim.Native.Nat.{ℕ, _+_, _*_, _^_, _≤_, _<_}
 use native.Mathlib.Omega.{arith}
 use lib.ListN.{take, length-take}
+use Rattle.cost_tables.specs.Tables.{ofOrder, cellsFrom}
 use Rattle.cost_tables.proofs.TableCosts.{order-cost-affordable, order-cost-at-most, index-costs-at-most}
 use Rattle.cost_filter.specs.FilterCost.{orderCost, indexCosts, filterCost, filterBits}
+
+-- a filter of order 0 is off: it costs nothing but the one bit that says so
+pub off-free : (weighting : ℕ) (indices : List ℕ) → filterCost weighting 0 indices ≡ 0
+unfolding filterCost orderCost ofOrder indexCosts cellsFrom
+off-free weighting indices = refl
+
+pub off-bits : (weighting : ℕ) (indices : List ℕ) → filterBits weighting 0 indices ≡ 1
+unfolding filterBits
+off-bits weighting indices = rw (off-free weighting indices)
 
 pub filter-cost-at-most : (weighting order : ℕ) (indices : List ℕ) → order ≤ 8 → filterCost weighting order indices ≤ 83 * 2048
 unfolding filterCost orderCost indexCosts

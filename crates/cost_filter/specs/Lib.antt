@@ -1,2 +1,3 @@
 -- What a reader has to believe of the cost of one filter.
 pub mod FilterCost
+pub mod Priceable

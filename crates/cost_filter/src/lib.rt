@@ -1,30 +1,46 @@
-// What one filter costs: E's `calc_bit_budget` of one filter, in whole numbers. It rests on the
-// contracts of the tables alone, and takes any order and indices: nothing is checked here.
-use cost_charges::coef_bits_below;
+// What one filter costs: E's `calc_bit_budget` of one filter, in whole numbers. It rests on the contracts
+// of the tables alone. Each function is lent the costs of `cost_tables::coef_costs` and requires that these
+// are they, and eight indices of at most 16: whoever asks for a filter's bits has bound the one and checked
+// the other. It takes any weighting and order.
+use cost_tables::coef_bits;
 use cost_tables::order_bits;
 ghost use mathlib.Core.Path.{_≡_};
-ghost use Rattle.cost_filter.specs.FilterCost.{filterCost, FilterPriced};
+ghost use lib.ListN.{take};
+ghost use Rattle.cost_filter.specs.FilterCost.{indexCosts, filterCost, FilterPriced};
+ghost use Rattle.cost_filter.specs.Priceable.{Priceable};
 
-fn widened(x: u16) -> u32
-    ensures { λ r. ⌜ r ≡ x ⌝ }
+// What the indices below an order cost together, each at its place. A cost is read before the order is
+// looked at, so that no branch has to be guessed by it.
+fn index_costs(costs: &[u16; 136], order: u8, indices: &[u8]) -> u32
+    requires { ⌜ Priceable (now costs) (now indices) ⌝ }
+    ensures { λ r. ⌜ r ≡ indexCosts (take order (now (indices .entry))) ⌝ }
 {
-    x as u32
+    let mut sum = 0u32;
+    for place in 0..indices.len() {
+        let cost = coef_bits(costs, place, indices[place]);
+        if place < order as usize {
+            sum = sum + cost as u32;
+        }
+    }
+    sum
 }
 
 // The cost of one filter in 2048ths of a bit: its order's and that of its indices below the order.
-fn filter_cost(weighting: u8, order: u8, indices: &[u8]) -> u32
+fn filter_cost(costs: &[u16; 136], weighting: u8, order: u8, indices: &[u8]) -> u32
+    requires { ⌜ Priceable (now costs) (now indices) ⌝ }
     ensures { λ r. ⌜ r ≡ filterCost weighting order (now (indices .entry)) ⌝ }
 {
     if order == 0 {
         return 0;
     }
-    widened(order_bits(weighting, order)) + coef_bits_below(order, indices)
+    order_bits(weighting, order) as u32 + index_costs(costs, order, indices)
 }
 
 // The bits of one filter, rounded up by itself, with the one bit that says whether it is on.
-pub fn filter_bits(weighting: u8, order: u8, indices: &[u8]) -> u16
+pub fn filter_bits(costs: &[u16; 136], weighting: u8, order: u8, indices: &[u8]) -> u16
+    requires { ⌜ Priceable (now costs) (now indices) ⌝ }
     ensures { λ r. ⌜ FilterPriced weighting order (now (indices .entry)) r ⌝ }
 {
-    let cost = filter_cost(weighting, order, indices);
+    let cost = filter_cost(costs, weighting, order, indices);
     1 + ((cost + 2047) / 2048) as u16
 }

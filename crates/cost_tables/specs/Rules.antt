@@ -1,11 +1,13 @@
--- What the bounds of docs/RULES.md, "Cost" (84 bits a filter, 168 a call) rest on of T's costs, each one test that the checker computes over a whole table.
+-- The rules of T's costs, each one test that the checker computes over a whole table: what the bounds of docs/RULES.md, "Cost" (84 bits a filter, 168
+-- a call) rest on, and where a cost is in one run.
 use mathlib.Core.Path.{_≡_, refl}
 use mathlib.Core.Bool.{Bool, true, _&&_}
 use mathlib.Core.List.{List, [], _∷_}
 use Prim.Native.Nat.{ℕ, suc, _+_, _*_}
-use lib.Dec.{leb}
+use lib.Dec.{eqb, leb}
+use lib.ListN.{getD}
 use Rattle.law_lists.specs.Every.{every}
-use Rattle.cost_tables.specs.Tables.{orderBits, coefBits}
+use Rattle.cost_tables.specs.Tables.{orderBits, coefBits, inOneRun}
 
 -- no order and no index costs more than 20480
 unfoldable pub affordable : List ℕ → Bool
@@ -27,3 +29,17 @@ withinFrom order (cost ∷ costs) = leb (cost + 20480 * order) (83 * 2048) && wi
 pub order-costs-within : every (withinFrom 1) orderBits ≡ true
 unfolding withinFrom
 order-costs-within = refl
+
+-- C-17: in one run of eight rows of seventeen, the cost of index i at place k is at 17k + i. A row is compared from a place of the run on, and the
+-- rows from one on.
+unfoldable pub rowIn : List ℕ → ℕ → List ℕ → Bool
+rowIn run place [] = true
+rowIn run place (cost ∷ costs) = eqb (getD run place 0) cost && rowIn run (suc place) costs
+
+unfoldable pub rowsIn : List ℕ → ℕ → List (List ℕ) → Bool
+rowsIn run k [] = true
+rowsIn run k (row ∷ rows) = rowIn run (17 * k) row && rowsIn run (suc k) rows
+
+pub index-costs-in-one-run : rowsIn (inOneRun coefBits) 0 coefBits ≡ true
+unfolding rowsIn rowIn inOneRun
+index-costs-in-one-run = refl

@@ -1,6 +1,6 @@
 -- The costs of T, `temporal_noise_shaping_tables.rs`, as lists of rows, and how a number is read out of a table.
 use mathlib.Core.Bool.{Bool, true, _&&_}
-use mathlib.Core.List.{List, [], _∷_}
+use mathlib.Core.List.{List, [], _∷_, _++_}
 use Prim.Native.Nat.{ℕ, zero, suc, _+_}
 use lib.Dec.{eqb}
 use lib.ListN.{getD, length}
@@ -38,6 +38,11 @@ coefBits =
     (20480 ∷ 20480 ∷ 20480 ∷ 20480 ∷ 20480 ∷ 20480 ∷ 12902 ∷ 3821 ∷ 3346 ∷ 3000 ∷ 12109 ∷ 20480 ∷ 20480 ∷ 20480 ∷ 20480 ∷ 20480 ∷ 20480 ∷ []) ∷
     (20480 ∷ 20480 ∷ 20480 ∷ 20480 ∷ 20480 ∷ 20480 ∷ 15725 ∷ 3658 ∷ 20480 ∷ 1201 ∷ 10854 ∷ 18432 ∷ 20480 ∷ 20480 ∷ 20480 ∷ 20480 ∷ 20480 ∷ []) ∷
     []
+
+-- C-17: the numbers of a table in one run, row after row
+unfoldable pub inOneRun : List (List ℕ) → List ℕ
+inOneRun [] = []
+inOneRun (row ∷ rows) = row ++ inOneRun rows
 
 -- the numbers of a table at some columns, in the rows from one on, added up
 unfoldable pub cellsFrom : List (List ℕ) → ℕ → List ℕ → ℕ

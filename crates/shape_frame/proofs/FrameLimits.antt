@@ -1,15 +1,25 @@
 -- What the encoder reports is within the limits: orders at most 8, eight indices at most 16 for each filter.
+use mathlib.Core.Path.{_≡_, refl}
 use mathlib.Core.Bool.{Bool, true, false, cond}
-use mathlib.Core.List.{List}
-use Prim.Native.Nat.{ℕ, _≤_}
+use mathlib.Core.List.{List, [], _∷_, _++_, map}
+use Prim.Native.Nat.{ℕ, suc, _≤_}
 use native.Mathlib.Omega.{arith}
+use borrow.Author.Tests.{le-ltb}
 use lib.Ieee.{Float}
+use lib.ListN.{length-append}
+use Rattle.check_limits.specs.LowestOver.{lowestOver}
+use Rattle.check_limits.specs.declared.Over.the-variants.{Nowhere}
+use Rattle.check_side.specs.Sides.{SoundSide}
+use Rattle.index_choice.specs.Indices.{indexOf}
+use Rattle.index_choice.proofs.Indices.{index-at-most}
 use Rattle.shape_filter.specs.Analysis.{reflectionsOf}
 use Rattle.shape_filter.proofs.FilterReflections.{eight-reflections}
 use Rattle.row_bands.specs.declared.Band.{Band}
 use Rattle.row_bands.specs.declared.Row.{Row}
 use Rattle.shape_frame.specs.FrameSide.{filterOf, secondOf, hasSecond, sideOf}
+use Rattle.side_quantized.specs.Quantized.{quantizedOf, absent}
 use Rattle.side_quantized.specs.Within.{Within8}
+use Rattle.side_data.specs.Side.{ordersIn, indicesIn}
 use Rattle.side_data.specs.Limits.{Reported}
 use Rattle.side_quantized.proofs.Within.{quantized-within, absent-within}
 use Rattle.side_quantized.specs.declared.Quantized.{Quantized}
@@ -39,4 +49,52 @@ side-reported row lines flag weighting =
       second = second-within row lines flag weighting;
       one = one-or-two (hasSecond row) .0;
       two = one-or-two (hasSecond row) .1;
+    }
+
+-- ---- numbers within a limit
+
+abbrev EachAtMost : ℕ → List ℕ → Type 0
+EachAtMost limit [] = Unit {0}
+EachAtMost limit (x ∷ xs) = (x ≤ limit) × EachAtMost limit xs
+
+none-found : (limit place : ℕ) (xs : List ℕ) → EachAtMost limit xs → lowestOver limit place xs ≡ Nowhere
+unfolding lowestOver
+none-found limit place [] h = refl
+none-found limit place (x ∷ xs) h = rw (le-ltb limit x (h .0)) (none-found limit (suc place) xs (h .1))
+
+append-at-most : (limit : ℕ) (xs ys : List ℕ) → EachAtMost limit xs → EachAtMost limit ys → EachAtMost limit (xs ++ ys)
+append-at-most limit [] ys p q = q
+append-at-most limit (x ∷ xs) ys p q = (p .0, append-at-most limit xs ys (p .1) q)
+
+indices-at-most : (r : List Float) → EachAtMost 16 (map indexOf r)
+indices-at-most [] = tt
+indices-at-most (x ∷ xs) = (index-at-most x, indices-at-most xs)
+
+filter-indices : (b : Band) (lines : List Float) (flag : Bool) (weighting : ℕ) → EachAtMost 16 (filterOf b lines flag weighting .indices)
+unfolding filterOf quantizedOf
+filter-indices b lines flag weighting = indices-at-most (reflectionsOf b lines flag weighting)
+
+second-indices : (row : Row) (lines : List Float) (flag : Bool) (weighting : ℕ) → EachAtMost 16 (secondOf row lines flag weighting .indices)
+unfolding secondOf absent
+second-indices row lines flag weighting = either (hasSecond row)
+  where
+    either : (two : Bool) → EachAtMost 16 (cond two (filterOf (row .second) lines flag weighting) absent .indices)
+    either true = filter-indices (row .second) lines flag weighting
+    either false = (omega arith, (omega arith, (omega arith, (omega arith, (omega arith, (omega arith, (omega arith, (omega arith, tt))))))))
+
+-- orders at most 8, indices at most 16, lists of their lengths, one or two filters
+pub side-sound : (row : Row) (lines : List Float) (flag : Bool) (weighting : ℕ)
+    → SoundSide (sideOf row lines flag weighting .filters) (ordersIn (sideOf row lines flag weighting)) (indicesIn (sideOf row lines flag weighting))
+unfolding sideOf
+side-sound row lines flag weighting =
+    let a = filterOf (row .first) lines flag weighting in
+    let b = secondOf row lines flag weighting in
+    let p = filter-within (row .first) lines flag weighting in
+    let q = second-within row lines flag weighting in
+    record {
+      two-orders = refl;
+      sixteen-indices = omega (arith, length-append (a .indices) (b .indices), p .eight-indices, q .eight-indices);
+      count-at-most-2 = one-or-two (hasSecond row) .1;
+      orders-at-most-8 = none-found 8 0 (a .order ∷ b .order ∷ []) (p .order-at-most-8, (q .order-at-most-8, tt));
+      indices-at-most-16 = none-found 16 0 (a .indices ++ b .indices) (append-at-most 16 (a .indices) (b .indices) (filter-indices (row .first) lines flag weighting) (second-indices row lines flag weighting));
     }

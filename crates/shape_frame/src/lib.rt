@@ -13,8 +13,9 @@ use side_quantized::quantize_all;
 ghost use mathlib.Core.Path.{_≡_};
 ghost use lib.ListN.{length};
 ghost use Rattle.shape_lags.specs.LongBands.{Long, LongRow};
-ghost use Rattle.side_data.specs.Side.{bitsOf};
-ghost use Rattle.side_data.specs.Limits.{Reported};
+ghost use Rattle.check_side.specs.Sides.{SoundSide};
+ghost use Rattle.cost_call.specs.Cost.{countedBits};
+ghost use Rattle.side_data.specs.Side.{ordersIn, indicesIn};
 ghost use Rattle.shape_frame.specs.FrameSide.{countOf, filterOf, secondOf, sideOf, frameFound};
 
 // What the analysis finds in a frame: its side data, and their bits.
@@ -69,14 +70,16 @@ fn side_of(lines: &[f32], row: Row, flag: bool, weighting: u8) -> SideData
     }
 }
 
-// The bits of the side data, whose 20 bytes have both filters' orders and indices one after the other.
-fn side_bits(side: SideData) -> u16
-    requires { ⌜ Reported side ⌝ }
-    ensures { λ r. ⌜ r ≡ bitsOf side ⌝ }
+// The bits of side data at a weighting. The 20 bytes have both filters' orders and indices one after the
+// other. The weighting is taken as the caller has it and not out of the side data: from there the
+// compiler sees that it is 0 or 1, and lays out the loop over the filters once (docs/DECISIONS.md).
+fn side_bits(weighting: u8, side: SideData) -> u16
+    requires { ⌜ SoundSide (side .filters) (ordersIn side) (indicesIn side) ⌝ }
+    ensures { λ r. ⌜ r ≡ countedBits weighting (side .filters) (ordersIn side) (indicesIn side) ⌝ }
 {
     let all = bytes_of(side);
     let bytes = &all[0..20];
-    counted_bits(side.weighting, side.filters, &bytes[2..4], &bytes[4..20])
+    counted_bits(weighting, side.filters, &bytes[2..4], &bytes[4..20])
 }
 
 // The side data of a frame, and their bits. The `requires` is what the encode call has checked: the row
@@ -86,6 +89,6 @@ pub fn analyse_frame(lines: &[f32], row: Row, flag: bool, weighting: u8) -> Foun
     ensures { λ r. ⌜ r ≡ frameFound row (now (lines .entry)) flag weighting ⌝ }
 {
     let side = side_of(lines, row, flag, weighting);
-    let bits = side_bits(side);
+    let bits = side_bits(weighting, side);
     Found { bits, side }
 }

@@ -57,8 +57,7 @@ returns c =
 counted-bits-requires : tie.Need-counted-bits-requires
 counted-bits-requires c κs =
     let g = c .before .before .before .before .before .before .args in
-    let sound = sound-side (g .filters) (g .orders .now) (g .indices .now) (sym (fine-at (c .before))) in
-    (sound .count-at-most-2, sound .two-orders, sound .sixteen-indices)
+    sound-side (g .filters) (g .orders .now) (g .indices .now) (sym (fine-at (c .before)))
 
 returns-2 : tie.Need-returns-2
 returns-2 c =

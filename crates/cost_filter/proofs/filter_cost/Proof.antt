@@ -1,52 +1,32 @@
 -- Order 0 costs nothing, any other its own cost and that of the indices below it.
-use mathlib.Core.Path.{_≡_, refl}
-use mathlib.Core.List.{List}
-use Prim.Native.Nat.{ℕ, _+_}
+use mathlib.Core.Path.{sym}
 use native.Mathlib.Omega.{arith}
 use borrow.Author.Needs.{needs}
-use lib.ListN.{take, length-take}
-use Rattle.cost_tables.specs.Tables.{ofOrder, orderBits, coefBits, cellsFrom}
-use Rattle.cost_tables.proofs.TableCosts.{index-costs-at-most}
-use Rattle.cost_filter.specs.FilterCost.{orderCost, indexCosts, filterCost}
+use Rattle.cost_filter.specs.FilterCost.{orderCost, filterCost}
+use Rattle.cost_filter.proofs.FilterCosts.{off-free, filter-cost-affordable}
 use Rattle.cost_filter.proofs.filter_cost.Statement.{statement}
 use Rattle.cost_filter.proofs.filter_cost.Tie as tie
 
--- order 0 costs nothing
-free : (weighting : ℕ) (is : List ℕ) → 0 ≡ filterCost weighting 0 is
-unfolding filterCost orderCost ofOrder indexCosts cellsFrom
-free weighting is = refl
-
-parts : (weighting order : ℕ) (is : List ℕ) → filterCost weighting order is ≡ ofOrder orderBits weighting order + cellsFrom coefBits 0 (take order is)
-unfolding filterCost orderCost indexCosts
-parts weighting order is = refl
-
 returns : tie.Need-returns
-returns c = rw (c .if1 .taken) (free (c .before .before .args .weighting) (c .before .before .args .indices .now))
+returns c = rw (c .if1 .taken) (sym (off-free (c .before .before .args .weighting) (c .before .before .args .indices .now)))
 
+-- the sum is the definition's, which has room in 32 bits
 add-result : tie.Need-add-result
+unfolding filterCost orderCost
 add-result c =
-    let g = c .before .before .before .before .before .args in
-    let start = c .before .before .before .before .before in
+    let start = c .before .before .before .before in
+    let g = start .args in
     omega (
       arith,
-      c .before .widened .ensures,
-      c .before .before .order-bits .ok,
-      c .coef-bits-below .ensures,
-      index-costs-at-most 0 (take (g .order) (g .indices .now)),
-      length-take (g .order) (g .indices .now),
+      c .before .order-bits .ensures,
+      c .index-costs .ensures,
+      filter-cost-affordable (g .weighting) (g .order) (g .indices .now),
       start .fits .order,
     )
 
 returns-2 : tie.Need-returns-2
-returns-2 c =
-    let g = c .before .before .before .before .before .args in
-    omega (
-      arith,
-      c .before .widened .ensures,
-      c .before .before .order-bits .ensures,
-      c .coef-bits-below .ensures,
-      parts (g .weighting) (g .order) (g .indices .now),
-    )
+unfolding filterCost orderCost
+returns-2 c = omega (arith, c .before .order-bits .ensures, c .index-costs .ensures)
 
 pub filter-cost-spec : {M : Type 1} → statement M
 filter-cost-spec =
@@ -54,7 +34,7 @@ filter-cost-spec =
     (tie.spec
     returns
     (λ c κs. search needs)
-    (λ c κs. search needs)
+    (λ c. search needs)
     (λ c κs. search needs)
     add-result
     returns-2)

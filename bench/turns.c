@@ -1,0 +1,160 @@
+/* Times the cost call and the encoder of two builds of the library by turns, and compares what they give.
+ *
+ *   turns BEFORE.so AFTER.so
+ *
+ * Each line has a kind of call, the time of one call in ns by each build, and the second time in parts of
+ * the first. A time is the best of many rounds. In a round each build makes the same calls, one build after
+ * the other; which is first changes from round to round. Copying the lines that an encoder call is given is
+ * not timed. Status 0, or 1 if a build cannot be loaded or any answer, line, side data or coefficient
+ * differs.
+ *
+ * Assumes Linux, x86-64 and an idle machine.
+ */
+#define _POSIX_C_SOURCE 200809L
+#include "../include/tns.h"
+#include <dlfcn.h>
+#include <stdio.h>
+#include <stdlib.h>
+#include <string.h>
+#include <time.h>
+
+enum { SIDES = 256, FRAMES = 12, ROUNDS = 4000, LINES = 400 };
+
+typedef tns_answer cost_call(uint8_t, uint8_t, const uint8_t *, size_t, const uint8_t *, size_t);
+typedef tns_answer encode_call(uint8_t, uint8_t, uint64_t, bool, float *, size_t, uint8_t *, float *);
+
+static struct {
+    cost_call *cost;
+    encode_call *encode;
+} builds[2];
+
+static struct {
+    uint8_t weighting, filters, orders[2], indices[16];
+} sides[SIDES];
+
+static float given[FRAMES][LINES];
+
+/* What an encoder call leaves, by build. */
+static struct left {
+    float lines[LINES], coefficients[16];
+    uint8_t side[20];
+    tns_answer answer;
+} left[2][FRAMES];
+
+static uint32_t state = 1;
+
+static uint32_t below(uint32_t limit)
+{
+    state = state * 1664525u + 1013904223u;
+    return (uint32_t)((uint64_t)state * limit >> 32);
+}
+
+static double now(void)
+{
+    struct timespec t;
+    clock_gettime(CLOCK_MONOTONIC, &t);
+    return (double)t.tv_sec * 1e9 + (double)t.tv_nsec;
+}
+
+static void fail(const char *why)
+{
+    fprintf(stderr, "turns: %s\n", why);
+    exit(1);
+}
+
+static void load(int build, const char *path)
+{
+    void *library = dlopen(path, RTLD_NOW | RTLD_LOCAL);
+    if (!library) fail(dlerror());
+    *(void **)&builds[build].cost = dlsym(library, "tns_cost");
+    *(void **)&builds[build].encode = dlsym(library, "tns_encode");
+    if (!builds[build].cost || !builds[build].encode) fail("a call is missing");
+}
+
+static void told(const char *what, const double best[2])
+{
+    printf("%-42s %9.1f %9.1f %8.3f\n", what, best[0], best[1], best[1] / best[0]);
+}
+
+/* Side data with so many filters, of orders from one to another. */
+static void time_cost(const char *what, uint8_t filters, uint8_t from, uint8_t to)
+{
+    double best[2] = {1e18, 1e18};
+    for (int s = 0; s < SIDES; s++) {
+        sides[s].weighting = (uint8_t)below(2);
+        sides[s].filters = filters;
+        for (int f = 0; f < 2; f++) sides[s].orders[f] = (uint8_t)(from + below((uint32_t)(to - from) + 1));
+        for (int i = 0; i < 16; i++) sides[s].indices[i] = (uint8_t)below(17);
+    }
+    uint32_t sums[2] = {0, 0};
+    for (int round = 0; round < ROUNDS; round++) {
+        for (int turn = 0; turn < 2; turn++) {
+            int build = (round + turn) % 2;
+            cost_call *cost = builds[build].cost;
+            uint32_t sum = 0;
+            double began = now();
+            for (int s = 0; s < SIDES; s++)
+                sum = 31 * sum + cost(sides[s].weighting, sides[s].filters, sides[s].orders, 2, sides[s].indices, 16).bits;
+            double taken = (now() - began) / SIDES;
+            if (taken < best[build]) best[build] = taken;
+            sums[build] = sum;
+        }
+    }
+    if (sums[0] != sums[1]) fail("costs differ");
+    told(what, best);
+}
+
+static void time_encode(uint8_t duration, uint8_t bandwidth, const char *kind)
+{
+    static const size_t lengths[2][5] = {{80, 160, 240, 320, 400}, {60, 120, 180, 240, 300}};
+    size_t length = lengths[duration][bandwidth];
+    double best[2] = {1e18, 1e18};
+    char what[64];
+    bool flag = !strcmp(kind, "flag"), silent = !strcmp(kind, "silence");
+    /* Lines that resemble their neighbours, such that every band gets a filter if it may. */
+    for (int f = 0; f < FRAMES; f++) {
+        struct left *its = &left[0][f];
+        do {
+            float line = 0;
+            for (size_t n = 0; n < LINES; n++) {
+                line = 0.9f * line + (float)below(2000) - 1000.0f;
+                given[f][n] = line;
+            }
+            memcpy(its->lines, given[f], sizeof given[f]);
+            builds[0].encode(duration, bandwidth, 320, false, its->lines, length, its->side, its->coefficients);
+        } while (!its->side[2] || (its->side[1] == 2 && !its->side[3]));
+        if (silent) memset(given[f], 0, sizeof given[f]);
+    }
+    for (int round = 0; round < ROUNDS; round++) {
+        for (int turn = 0; turn < 2; turn++) {
+            int build = (round + turn) % 2;
+            struct left *its = left[build];
+            for (int f = 0; f < FRAMES; f++) memcpy(its[f].lines, given[f], sizeof given[f]);
+            double began = now();
+            for (int f = 0; f < FRAMES; f++)
+                its[f].answer = builds[build].encode(duration, bandwidth, 320, flag, its[f].lines, length, its[f].side, its[f].coefficients);
+            double taken = (now() - began) / FRAMES;
+            if (taken < best[build]) best[build] = taken;
+        }
+    }
+    if (memcmp(left[0], left[1], sizeof left[0])) fail("encoder results differ");
+    snprintf(what, sizeof what, "encode %s ms bandwidth %d, %s", duration ? "7.5" : "10", bandwidth, kind);
+    told(what, best);
+}
+
+int main(int count, char **words)
+{
+    static const char *const kinds[] = {"on", "flag", "silence"};
+    if (count != 3) fail("usage: turns BEFORE.so AFTER.so");
+    load(0, words[1]);
+    load(1, words[2]);
+    printf("%-42s %9s %9s %8s\n", "a call, in ns", "before", "after", "ratio");
+    time_cost("cost, two filters of orders 5 to 8", 2, 5, 8);
+    time_cost("cost, two filters of orders 0 to 8", 2, 0, 8);
+    time_cost("cost, one filter of orders 1 to 8", 1, 1, 8);
+    time_cost("cost, two filters of order 0", 2, 0, 0);
+    for (int kind = 0; kind < 3; kind++)
+        for (uint8_t duration = 0; duration < 2; duration++)
+            for (uint8_t bandwidth = 0; bandwidth < 5; bandwidth++) time_encode(duration, bandwidth, kinds[kind]);
+    return 0;
+}

@@ -1,2 +1,0 @@
--- What a reader has to believe of a sum of costs.
-pub mod Charges
