@@ -1,10 +1,11 @@
 // The frequencies of T, `temporal_noise_shaping_tables.rs`, as the arithmetic coder takes them: how often an
 // order or an index is expected, and the frequencies before it, added up. Every lookup takes any numbers
 // and answers 0 outside its table.
-use cost_tables::of_coefficient;
 use cost_tables::of_order;
 ghost use mathlib.Core.Path.{_≡_};
-ghost use Rattle.cost_tables.specs.Tables.{cell, ofOrder};
+ghost use mathlib.Core.Bool.{true};
+ghost use lib.ListN.{length};
+ghost use Rattle.cost_tables.specs.Tables.{cell, wide, ofOrder};
 ghost use Rattle.cost_frequencies.specs.Frequencies.{orderFreq, orderCumfreq, coefFreq, coefCumfreq};
 
 const AC_TNS_ORDER_FREQ: [[u16; 8]; 2] = [
@@ -236,6 +237,23 @@ const AC_TNS_COEF_CUMFREQ: [[u16; 17]; 8] = [
         1023,
     ],
 ];
+
+// One lookup serves both coefficient tables. It requires a table of its rows and columns, which the checker
+// computes of each.
+fn of_coefficient(table: &[[u16; 17]; 8], place: u8, index: u8) -> u16
+    requires { ⌜ (length (now table) ≡ 8) × (wide 17 (now table) ≡ true) ⌝ }
+    ensures { λ r. ⌜ r ≡ cell (now (table .entry)) place index ⌝ }
+{
+    if place > 7 {
+        return 0;
+    }
+    if index > 16 {
+        return 0;
+    }
+    let row = place as usize;
+    let column = index as usize;
+    table[row][column]
+}
 
 // How often an order is expected, in 1024ths.
 pub fn order_freq(weighting: u8, order: u8) -> u16

@@ -4,8 +4,6 @@ use Rattle.cost_tables.proofs.coef_bits.Kinds as coef-bits-kinds
 use Rattle.cost_tables.proofs.coef_bits.Reads as coef-bits-reads
 use Rattle.cost_tables.proofs.coef_costs.Kinds as coef-costs-kinds
 use Rattle.cost_tables.proofs.coef_costs.Reads as coef-costs-reads
-use Rattle.cost_tables.proofs.of_coefficient.Kinds as of-coefficient-kinds
-use Rattle.cost_tables.proofs.of_coefficient.Reads as of-coefficient-reads
 use Rattle.cost_tables.proofs.of_order.Kinds as of-order-kinds
 use Rattle.cost_tables.proofs.of_order.Reads as of-order-reads
 use Rattle.cost_tables.proofs.order_bits.Kinds as order-bits-kinds
@@ -16,9 +14,6 @@ coef-bits κs a x y s t p q = itself p q
 
 coef-costs : Determined 0 coef-costs-kinds.ps coef-costs-kinds.r coef-costs-reads.Post
 coef-costs κs a x y s t p q = itself p q
-
-of-coefficient : Determined 1 of-coefficient-kinds.ps of-coefficient-kinds.r of-coefficient-reads.Post
-of-coefficient κs a x y s t p q = itself p q
 
 of-order : Determined 1 of-order-kinds.ps of-order-kinds.r of-order-reads.Post
 of-order κs a x y s t p q = itself p q

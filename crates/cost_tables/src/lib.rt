@@ -1,7 +1,7 @@
 // The costs of T, `temporal_noise_shaping_tables.rs`, and how a number is read out of one of its tables.
-// Every lookup takes any numbers and answers 0 outside its table. Layers above rely on these contracts
-// alone. `of_order` and `of_coefficient` require that the table they are lent has its rows and columns:
-// whoever calls them lends a table of that form, which the checker computes.
+// Layers above rely on these contracts alone. The lookup of an order takes any numbers and answers 0 outside
+// its table. `of_order` requires that the table it is lent has its rows and columns: whoever calls it lends
+// a table of that form, which the checker computes.
 ghost use mathlib.Core.Path.{_≡_};
 ghost use mathlib.Core.Bool.{true};
 ghost use Prim.Native.Nat.{_<_};
@@ -162,7 +162,7 @@ const AC_TNS_COEF_BITS: [u16; 136] = [
 ];
 
 // One lookup serves the three order tables, whose columns begin at order 1. It requires a table of its rows
-// and columns, as the next does (see the heading).
+// and columns (see the heading).
 pub fn of_order(table: &[[u16; 8]; 2], weighting: u8, order: u8) -> u16
     requires { ⌜ (length (now table) ≡ 2) × (wide 8 (now table) ≡ true) ⌝ }
     ensures { λ r. ⌜ r ≡ ofOrder (now (table .entry)) weighting order ⌝ }
@@ -178,22 +178,6 @@ pub fn of_order(table: &[[u16; 8]; 2], weighting: u8, order: u8) -> u16
     }
     let row = weighting as usize;
     let column = order as usize - 1;
-    table[row][column]
-}
-
-// One lookup serves the three coefficient tables.
-pub fn of_coefficient(table: &[[u16; 17]; 8], place: u8, index: u8) -> u16
-    requires { ⌜ (length (now table) ≡ 8) × (wide 17 (now table) ≡ true) ⌝ }
-    ensures { λ r. ⌜ r ≡ cell (now (table .entry)) place index ⌝ }
-{
-    if place > 7 {
-        return 0;
-    }
-    if index > 16 {
-        return 0;
-    }
-    let row = place as usize;
-    let column = index as usize;
     table[row][column]
 }
 

@@ -2,9 +2,9 @@
 use native.Mathlib.Omega.{arith}
 use mathlib.Core.Path.{sym}
 use borrow.Author.Needs.{needs}
 use Rattle.cost_tables.proofs.PastTables.{outside-rows, outside-columns}
-use Rattle.cost_tables.proofs.of_coefficient.Statement.{statement}
-use Rattle.cost_tables.proofs.of_coefficient.Tie as tie
+use Rattle.cost_frequencies.proofs.of_coefficient.Statement.{statement}
+use Rattle.cost_frequencies.proofs.of_coefficient.Tie as tie
 
 returns : tie.Need-returns
 returns c =
