@@ -1,12 +1,14 @@
 /* Times the cost call and the encoder of two builds of the library by turns, and compares what they give.
  *
  *   turns BEFORE.so AFTER.so
+ *   turns BEFORE.so AFTER.so BUILD KIND CALLS
  *
  * Each line has a kind of call, the time of one call in ns by each build, and the second time in parts of
  * the first. A time is the best of many rounds. In a round each build makes the same calls, one build after
  * the other; which is first changes from round to round. Copying the lines that an encoder call is given is
- * not timed. Status 0, or 1 if a build cannot be loaded or any answer, line, side data or coefficient
- * differs.
+ * not timed. The second form times nothing: it makes so many cost calls by the first build (BUILD is 0) or the
+ * second (1), of the first kind of side data (KIND is 0) or another (1 to 3), for valgrind to count. Status 0, or
+ * 1 if a build cannot be loaded or any answer, line, side data or coefficient differs.
  *
  * Assumes Linux, x86-64 and an idle machine.
  */
@@ -18,7 +20,7 @@
 #include <string.h>
 #include <time.h>
 
-enum { SIDES = 256, FRAMES = 12, ROUNDS = 4000, LINES = 400 };
+enum { SIDES = 256, FRAMES = 12, ROUNDS = 20000, LINES = 400 };
 
 typedef tns_answer cost_call(uint8_t, uint8_t, const uint8_t *, size_t, const uint8_t *, size_t);
 typedef tns_answer encode_call(uint8_t, uint8_t, uint64_t, bool, float *, size_t, uint8_t *, float *);
@@ -73,44 +75,66 @@ static void load(int build, const char *path)
 
 static void told(const char *what, const double best[2])
 {
-    printf("%-42s %9.1f %9.1f %8.3f\n", what, best[0], best[1], best[1] / best[0]);
+    printf("%-51s %9.1f %9.1f %8.3f\n", what, best[0], best[1], best[1] / best[0]);
 }
 
-/* Side data with so many filters, of orders from one to another. */
-static void time_cost(const char *what, uint8_t filters, uint8_t from, uint8_t to)
+/* Kinds of side data: so many filters, of orders from one to another. */
+static const struct kind {
+    const char *what;
+    uint8_t filters, from, to;
+} kinds[] = {
+    {"cost, two filters of orders 5 to 8", 2, 5, 8},
+    {"cost, two filters of orders 0 to 8", 2, 0, 8},
+    {"cost, one filter of orders 1 to 8", 1, 1, 8},
+    {"cost, two filters of order 0", 2, 0, 0},
+};
+
+static void draw_sides(struct kind kind)
 {
-    double best[2] = {1e18, 1e18};
     for (int s = 0; s < SIDES; s++) {
         sides[s].weighting = (uint8_t)below(2);
-        sides[s].filters = filters;
-        for (int f = 0; f < 2; f++) sides[s].orders[f] = (uint8_t)(from + below((uint32_t)(to - from) + 1));
+        sides[s].filters = kind.filters;
+        for (int f = 0; f < 2; f++) sides[s].orders[f] = (uint8_t)(kind.from + below((uint32_t)(kind.to - kind.from) + 1));
         for (int i = 0; i < 16; i++) sides[s].indices[i] = (uint8_t)below(17);
     }
+}
+
+/* The bits of so many cost calls, mixed into one number. */
+static uint32_t costs(int build, int calls)
+{
+    uint32_t sum = 0;
+    for (int c = 0; c < calls; c++) {
+        int s = c % SIDES;
+        sum = 31 * sum + builds[build].cost(sides[s].weighting, sides[s].filters, sides[s].orders, 2, sides[s].indices, 16).bits;
+    }
+    return sum;
+}
+
+static void time_cost(struct kind kind)
+{
+    double best[2] = {1e18, 1e18};
     uint32_t sums[2] = {0, 0};
+    draw_sides(kind);
     for (int round = 0; round < ROUNDS; round++) {
         for (int turn = 0; turn < 2; turn++) {
             int build = (round + turn) % 2;
-            cost_call *cost = builds[build].cost;
-            uint32_t sum = 0;
             double began = now();
-            for (int s = 0; s < SIDES; s++)
-                sum = 31 * sum + cost(sides[s].weighting, sides[s].filters, sides[s].orders, 2, sides[s].indices, 16).bits;
+            sums[build] = costs(build, SIDES);
             double taken = (now() - began) / SIDES;
             if (taken < best[build]) best[build] = taken;
-            sums[build] = sum;
         }
     }
     if (sums[0] != sums[1]) fail("costs differ");
-    told(what, best);
+    told(kind.what, best);
 }
 
-static void time_encode(uint8_t duration, uint8_t bandwidth, const char *kind)
+static void time_encode(uint8_t duration, uint8_t bandwidth, const char *input)
 {
     static const size_t lengths[2][5] = {{80, 160, 240, 320, 400}, {60, 120, 180, 240, 300}};
     size_t length = lengths[duration][bandwidth];
     double best[2] = {1e18, 1e18};
     char what[64];
-    bool flag = !strcmp(kind, "flag"), silent = !strcmp(kind, "silence");
+    bool flag = !strcmp(input, "flag"), silent = !strcmp(input, "silence");
     /* Lines that resemble their neighbours, such that every band gets a filter if it may. */
     for (int f = 0; f < FRAMES; f++) {
         struct left *its = &left[0][f];
@@ -138,23 +162,25 @@ static void time_encode(uint8_t duration, uint8_t bandwidth, const char *kind)
         }
     }
     if (memcmp(left[0], left[1], sizeof left[0])) fail("encoder results differ");
-    snprintf(what, sizeof what, "encode %s ms bandwidth %d, %s", duration ? "7.5" : "10", bandwidth, kind);
+    snprintf(what, sizeof what, "encode %s ms bandwidth %d, %s", duration ? "7.5" : "10", bandwidth, input);
     told(what, best);
 }
 
 int main(int count, char **words)
 {
-    static const char *const kinds[] = {"on", "flag", "silence"};
-    if (count != 3) fail("usage: turns BEFORE.so AFTER.so");
+    static const char *const inputs[] = {"on", "flag", "silence"};
+    if (count != 3 && count != 6) fail("usage: turns BEFORE.so AFTER.so [BUILD KIND CALLS]");
     load(0, words[1]);
     load(1, words[2]);
-    printf("%-42s %9s %9s %8s\n", "a call, in ns", "before", "after", "ratio");
-    time_cost("cost, two filters of orders 5 to 8", 2, 5, 8);
-    time_cost("cost, two filters of orders 0 to 8", 2, 0, 8);
-    time_cost("cost, one filter of orders 1 to 8", 1, 1, 8);
-    time_cost("cost, two filters of order 0", 2, 0, 0);
-    for (int kind = 0; kind < 3; kind++)
+    if (count == 6) {
+        draw_sides(kinds[atoi(words[4]) % 4]);
+        printf("%u\n", (unsigned)costs(atoi(words[3]) % 2, atoi(words[5])));
+        return 0;
+    }
+    printf("%-51s %9s %9s %8s\n", "a call, in ns", "before", "after", "ratio");
+    for (int kind = 0; kind < 4; kind++) time_cost(kinds[kind]);
+    for (int input = 0; input < 3; input++)
         for (uint8_t duration = 0; duration < 2; duration++)
-            for (uint8_t bandwidth = 0; bandwidth < 5; bandwidth++) time_encode(duration, bandwidth, kinds[kind]);
+            for (uint8_t bandwidth = 0; bandwidth < 5; bandwidth++) time_encode(duration, bandwidth, inputs[input]);
     return 0;
 }

@@ -25,6 +25,22 @@ pub fn any_side(random: &mut Random, filters: usize) -> Side {
     side
 }
 
+/// One filter with every index at every place of every order, both weightings, and that place. Its other
+/// indices are 8.
+pub fn every_place(mut with: impl FnMut(Side, usize)) {
+    for weighting in 0..2 {
+        for order in 1..=8 {
+            for place in 0..order {
+                for index in 0..17 {
+                    let mut side = Side::plain(weighting, order);
+                    side.indices[place] = index;
+                    with(side, place);
+                }
+            }
+        }
+    }
+}
+
 /// All side data of one filter with an order up to `most`, both weightings.
 pub fn every_side(most: usize, mut with: impl FnMut(&Side)) {
     for weighting in 0..2 {

@@ -4,7 +4,7 @@
 
 use crate::compare::Differing;
 use crate::document::Side;
-use crate::draw::{any_side, every_side, Random, SEED};
+use crate::draw::{any_side, every_place, every_side, Random, SEED};
 use crate::original::Build;
 use std::io::{BufRead, BufReader, BufWriter, Write};
 use std::path::Path;
@@ -16,6 +16,7 @@ const ANY_COUNT: u64 = 100_000;
 /// The records in their fixed order; asked for twice, to write and to compare.
 fn records(mut with: impl FnMut(&Side)) {
     every_side(4, &mut with);
+    every_place(|side, _| with(&side));
     let mut random = Random(SEED);
     for _ in 0..RANDOM {
         with(&any_side(&mut random, 2));
@@ -79,7 +80,7 @@ pub fn run(root: &Path, build: &Build) -> bool {
     let written = writer.join().unwrap_or(false);
     let ended = child.wait().map(|s| s.success()).unwrap_or(false);
     println!(
-        "cost: {} against {shown} bits (every one-filter pattern of orders 0..4, {RANDOM} random two-filter, {ANY_COUNT} random 0..2-filter records): {compared} compared, {} differ, {missing} lines missing, {beyond} too many, all read {written}, ended well {ended}",
+        "cost: {} against {shown} bits (every one-filter pattern of orders 0..4, every index at every place of every order, {RANDOM} random two-filter, {ANY_COUNT} random 0..2-filter records): {compared} compared, {} differ, {missing} lines missing, {beyond} too many, all read {written}, ended well {ended}",
         build.name, differ.0
     );
     differ.0 + missing == 0 && beyond == 0 && written && ended

@@ -1,7 +1,7 @@
 //! The list `cost`: side data with E's bits.
 
 use crate::document::Side;
-use crate::draw::{any_side, Random, SEED};
+use crate::draw::{any_side, every_place, every_side, Random, SEED};
 use crate::original::Build;
 use crate::words::lists::list::{Given, List, COST};
 use std::path::Path;
@@ -30,22 +30,15 @@ fn marked() -> Vec<(Side, usize)> {
 fn sides(random: &mut Random) -> Vec<Side> {
     let mut sides: Vec<Side> = marked().into_iter().map(|(side, _)| side).collect();
     // Every index at every place of every order; the others 8, then random.
-    for others_random in [false, true] {
-        for weighting in 0..2 {
-            for order in 1..=8 {
-                for place in 0..order {
-                    for index in 0..17 {
-                        let mut side = Side::plain(weighting, order);
-                        if others_random {
-                            side.indices = any_side(random, 1).indices;
-                        }
-                        side.indices[place] = index;
-                        sides.push(side);
-                    }
-                }
-            }
-        }
-    }
+    every_place(|side, _| sides.push(side));
+    every_place(|mut side, place| {
+        let index = side.indices[place];
+        side.indices = any_side(random, 1).indices;
+        side.indices[place] = index;
+        sides.push(side);
+    });
+    // Every cost of one filter up to order 2.
+    every_side(2, |side| sides.push(side.clone()));
     // Two filters: every pair of orders.
     for weighting in 0..2 {
         for pair in 0..81 {
