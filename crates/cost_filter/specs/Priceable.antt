@@ -1,4 +1,4 @@
--- What inner contracts say of what a filter's cost is asked of. No public promise rests on this name.
+-- What the functions of this crate require. No door's promise rests on this name.
 use mathlib.Core.Path.{_≡_}
 use mathlib.Core.List.{List}
 use Prim.Native.Nat.{ℕ, _≤_}

@@ -1,7 +1,7 @@
 // What one filter costs: E's `calc_bit_budget` of one filter, in whole numbers. It rests on the contracts
-// of the tables alone. Each function is lent the costs of `cost_tables::coef_costs` and requires that these
-// are they, and eight indices of at most 16: whoever asks for a filter's bits has bound the one and checked
-// the other. It takes any weighting and order.
+// of the tables alone. Each function is lent the costs of `cost_tables::coef_costs`, and requires no other
+// numbers there, and eight indices of at most 16: the caller has bound those costs and checked the indices.
+// Any weighting and any order will do.
 use cost_tables::coef_bits;
 use cost_tables::order_bits;
 ghost use mathlib.Core.Path.{_≡_};
@@ -9,8 +9,8 @@ ghost use lib.ListN.{take};
 ghost use Rattle.cost_filter.specs.FilterCost.{indexCosts, filterCost, FilterPriced};
 ghost use Rattle.cost_filter.specs.Priceable.{Priceable};
 
-// What the indices below an order cost together, each at its place. A cost is read before the order is
-// looked at, so that no branch has to be guessed by it.
+// What the indices below an order cost together, each at its place. Each cost is read before the order is
+// looked at, so that no branch depends on the order.
 fn index_costs(costs: &[u16; 136], order: u8, indices: &[u8]) -> u32
     requires { ⌜ Priceable (now costs) (now indices) ⌝ }
     ensures { λ r. ⌜ r ≡ indexCosts (take order (now (indices .entry))) ⌝ }

@@ -30,11 +30,11 @@ pub order-costs-within : every (withinFrom 1) orderBits ≡ true
 unfolding withinFrom
 order-costs-within = refl
 
--- C-17: in one run of eight rows of seventeen, the cost of index i at place k is at 17k + i. A row is compared from a place of the run on, and the
--- rows from one on.
+-- C-17: in one run of the eight rows of seventeen, what index i costs at place k is at 17k + i. `rowIn` compares one row with the run, from number
+-- `at` of the run on, and `rowsIn` the rows from that of place k on.
 unfoldable pub rowIn : List ℕ → ℕ → List ℕ → Bool
-rowIn run place [] = true
-rowIn run place (cost ∷ costs) = eqb (getD run place 0) cost && rowIn run (suc place) costs
+rowIn run at [] = true
+rowIn run at (cost ∷ costs) = eqb (getD run at 0) cost && rowIn run (suc at) costs
 
 unfoldable pub rowsIn : List ℕ → ℕ → List (List ℕ) → Bool
 rowsIn run k [] = true

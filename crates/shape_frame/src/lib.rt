@@ -71,8 +71,8 @@ fn side_of(lines: &[f32], row: Row, flag: bool, weighting: u8) -> SideData
 }
 
 // The bits of side data at a weighting. The 20 bytes have both filters' orders and indices one after the
-// other. The weighting is taken as the caller has it and not out of the side data: from there the
-// compiler sees that it is 0 or 1, and lays out the loop over the filters once (docs/DECISIONS.md).
+// other. The weighting comes from the caller, though the side data has it too: of the caller's the compiler
+// knows that it is 0 or 1, and so it lays out the loop over the filters only once (docs/DECISIONS.md).
 fn side_bits(weighting: u8, side: SideData) -> u16
     requires { ⌜ SoundSide (side .filters) (ordersIn side) (indicesIn side) ⌝ }
     ensures { λ r. ⌜ r ≡ countedBits weighting (side .filters) (ordersIn side) (indicesIn side) ⌝ }

@@ -24,7 +24,7 @@ Inv-loop weighting filters orders indices costs bits₀ filter₀ filter-end bit
 abbrev μ-loop : tie.MeasureT-loop
 μ-loop weighting filters orders indices costs bits₀ filter₀ filter-end bits filter = filter-end - filter
 
--- no order of a list of two
+-- both of two orders are 0, so every order is
 no-order : (orders : List ℕ) → length orders ≡ 2 → getD orders 0 0 ≡ 0 → getD orders 1 0 ≡ 0 → (i : ℕ) → getD orders i 0 ≡ 0
 no-order orders two first second zero = first
 no-order orders two first second (suc zero) = second
