@@ -8,7 +8,8 @@
  * the other; which is first changes from round to round. Copying the lines that an encoder call is given is
  * not timed. The second form times nothing: it makes so many cost calls by the first build (BUILD is 0) or the
  * second (1), of the first kind of side data (KIND is 0) or another (1 to 3), for valgrind to count. Status 0, or
- * 1 if a build cannot be loaded or any answer, line, side data or coefficient differs.
+ * 1 if the words are wrong, a build cannot be loaded, or the two builds do not give the same: bits of the cost calls,
+ * and answers, lines, side data and coefficients of the encoder calls. The second form compares nothing.
  *
  * Assumes Linux, x86-64 and an idle machine.
  */

@@ -1,5 +1,5 @@
--- Laws of the cost that callers use in place of its text: two filters within the limits cost at most 168 bits, and what the cost call says is one
--- of five refusals or the bits of sound side data. They rest on the laws of one filter.
+-- Laws of the cost that callers use in place of its text: two filters within the limits cost at most 168 bits, what the cost call says is one of five
+-- refusals or the bits of sound side data, and bits add up filter by filter. They rest on the laws of one filter.
 use mathlib.Core.Path.{_≡_, refl, _∙_, ap}
 use mathlib.Core.List.{List}
 use Prim.Native.Nat.{ℕ, zero, suc, _+_, _*_, _≤_, _<_}

@@ -1,5 +1,5 @@
--- Laws of a filter's cost that callers use in place of its text: a filter within the limits costs at most 84 bits, and every sum on the way is
--- below 2 ^ 24. Each rests on a law of the tables.
+-- Laws of a filter's cost that callers use in place of its text: a filter that is off takes one bit, a filter within the limits at most 84, and every
+-- sum on the way is below 2 ^ 24. The bounds rest on laws of the tables.
 use mathlib.Core.Path.{_≡_, refl}
 use mathlib.Core.List.{List}
 use Prim.Native.Nat.{ℕ, _+_, _*_, _^_, _≤_, _<_}

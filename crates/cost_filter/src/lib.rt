@@ -10,7 +10,7 @@ ghost use Rattle.cost_filter.specs.FilterCost.{indexCosts, filterCost, F
 ghost use Rattle.cost_filter.specs.Priceable.{Priceable};
 
 // What the indices below an order cost together, each at its place. Each cost is read before the order is
-// looked at, so that no branch depends on the order.
+// looked at, so that no branch here depends on the order.
 fn index_costs(costs: &[u16; 136], order: u8, indices: &[u8]) -> u32
     requires { ⌜ Priceable (now costs) (now indices) ⌝ }
     ensures { λ r. ⌜ r ≡ indexCosts (take order (now (indices .entry))) ⌝ }

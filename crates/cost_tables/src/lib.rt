@@ -188,8 +188,8 @@ pub fn order_bits(weighting: u8, order: u8) -> u16
     of_order(&AC_TNS_ORDER_BITS, weighting, order)
 }
 
-// What the indices cost, in one run. The compiler writes a constant to the stack wherever it is read at a
-// place that it does not know, so whoever looks up several costs binds them once and lends them.
+// What the indices cost, in one run. The compiler copies a constant to the stack wherever it is read at a
+// position that it does not know, so whoever looks up several costs binds them once and lends them.
 pub fn coef_costs() -> [u16; 136]
     ensures { λ r. ⌜ r ≡ inOneRun coefBits ⌝ }
 {
