@@ -6,7 +6,9 @@ use Prim.Native.Nat.{ℕ, suc}
 use lib.Dec.{eqb}
 use lib.ListN.{drop}
 use lib.Ieee.{Float, lt, le, neg, ofBits}
-use Rattle.law_rounding.specs.Floats.{f1}
+use lib.Ieee.Positive.{positive}
+use Rattle.law_lists.specs.Every.{every}
+use Rattle.law_rounding.specs.Floats.{f0, f1}
 use Rattle.index_coefficients.specs.Coefficients.{coefficients}
 use Rattle.index_coefficients.specs.CoefficientRules.{risingFrom}
 use Rattle.index_choice.specs.Indices.{thresholds, indexOf, notAbove}
@@ -26,6 +28,15 @@ countUp i (x ∷ xs) = eqb (indexOf x) i && countUp (suc i) xs
 pub thresholds-between : risingFrom (neg f1) (alternate (drop 8 coefficients) thresholds) ≡ true
 unfolding risingFrom alternate lt neg ofBits
 thresholds-between = refl
+
+-- the thresholds are finite and above 0, and they rise: a search may halve them
+pub thresholds-positive : every positive thresholds ≡ true
+unfolding ofBits
+thresholds-positive = refl
+
+pub thresholds-rise : risingFrom f0 thresholds ≡ true
+unfolding risingFrom lt ofBits
+thresholds-rise = refl
 
 -- index and coefficient agree: the index of coefficient i is i
 pub indices-agree : countUp 0 coefficients ≡ true

@@ -2,6 +2,11 @@
 // with a table in the place of the arcsine. The table comes from a sweep of the Rust
 // (oracle/RESULTS.txt).
 ghost use mathlib.Core.Path.{_≡_};
+ghost use mathlib.Core.Bool.{cond};
+ghost use Prim.Native.Nat.{_<_};
+ghost use lib.Dec.{ltb};
+ghost use lib.Ieee.{nan};
+ghost use lib.ListN.{getD};
 ghost use Rattle.index_choice.specs.Indices.{indexOf, orderOf, notAbove, thresholds};
 
 const THRESHOLDS: [f32; 8] = [
@@ -15,34 +20,62 @@ const THRESHOLDS: [f32; 8] = [
     0.98297316,
 ];
 
-// How many thresholds are not above `x`.
+// The threshold at a place. The places stand in a `match`, so that the compiler keeps the table as a constant
+// and does not write it out at each look. `place` is required to be one of the eight, as it is at each of the
+// four looks: a test of it would take as long as a look.
+fn threshold(place: u32) -> f32
+    requires { ⌜ place < 8 ⌝ }
+    ensures { λ r. ⌜ r ≡ getD thresholds place nan ⌝ }
+{
+    match place {
+        0 => THRESHOLDS[0],
+        1 => THRESHOLDS[1],
+        2 => THRESHOLDS[2],
+        3 => THRESHOLDS[3],
+        4 => THRESHOLDS[4],
+        5 => THRESHOLDS[5],
+        6 => THRESHOLDS[6],
+        _ => THRESHOLDS[7],
+    }
+}
+
+// A step of the search, which a test decides on.
+fn step_if(test: bool, step: u32) -> u32
+    ensures { λ r. ⌜ r ≡ cond test step 0 ⌝ }
+{
+    if test { step } else { 0 }
+}
+
+// A look at a threshold: `step` if it is not above `x`, and 0 if it is. The thresholds rise, so it is not above
+// `x` exactly if more than `place` of them are not. `place` is required as in `threshold`.
+fn look(x: f32, place: u32, step: u32) -> u32
+    requires { ⌜ place < 8 ⌝ }
+    ensures { λ r. ⌜ r ≡ cond (ltb place (notAbove x thresholds)) step 0 ⌝ }
+{
+    step_if(threshold(place) <= x, step)
+}
+
+// How many thresholds are not above `x`. Three looks halve the first seven, and the fourth is at the last. The
+// steps are added up and nothing branches: no processor can foresee in which half a coefficient will be.
 fn not_above(x: f32) -> u8
     ensures { λ r. ⌜ r ≡ notAbove x thresholds ⌝ }
 {
-    let mut count = 0u8;
-    for k in 0..8usize {
-        if THRESHOLDS[k] <= x {
-            count += 1;
-        }
-    }
-    count
+    let by_fours = look(x, 3, 4);
+    let by_twos = by_fours + look(x, by_fours + 1, 2);
+    let by_ones = by_twos + look(x, by_twos, 1);
+    let count = by_ones + look(x, 7, 1);
+    count as u8
 }
 
-// The index of a reflection coefficient, for every f32.
+// The index of a reflection coefficient, for every f32. The search goes by its size, and its sign decides only
+// at the end, without a branch: signs cannot be foreseen either. NaN is not at most 1, and counts as 0.
 pub fn index_of(x: f32) -> u8
     ensures { λ r. ⌜ r ≡ indexOf x ⌝ }
 {
-    if 0.0 <= x {
-        if x <= 1.0 {
-            return 8 + not_above(x);
-        }
-    }
-    if -1.0 <= x {
-        if x <= 0.0 {
-            return 8 - not_above(-x);
-        }
-    }
-    8
+    let size = if x < 0.0 { -x } else { x };
+    let found = not_above(size);
+    let count = if size <= 1.0 { found } else { 0 };
+    if x < 0.0 { 8 - count } else { 8 + count }
 }
 
 // The order of a filter: its last place whose index is not 8, counted from 1, or 0.

@@ -1,63 +1,46 @@
--- The invariant: what is counted, with what is left of the table to count, is the whole count.
-use mathlib.Core.Path.{_≡_}
-use mathlib.Core.Bool.{Bool, true, false, cond}
-use mathlib.Core.List.{List}
-use mathlib.Core.Logic.{⊎-elim}
-use Prim.Native.Nat.{ℕ, _+_, _-_, _<_, _≤_}
-use native.Mathlib.Numerals.{add-one}
+-- Three looks leave one number for the count of the first seven thresholds, and the fourth tells whether the eighth is counted too.
 use native.Mathlib.Omega.{arith}
-use lib.Ieee.{Float, nan, le}
-use lib.ListN.{length, getD, drop, drop-of-length-le}
-use lib.Seq.{drop-cons}
+use borrow.Author.Needs.{needs}
+use Prim.Native.Nat.{_+_}
 use Rattle.index_choice.specs.Indices.{notAbove, thresholds}
+use Rattle.index_choice.proofs.Indices.{at-most-all}
+use Rattle.index_choice.proofs.Rising.{Left, at-first, halved, counted}
 use Rattle.index_choice.proofs.not_above.Statement.{statement}
 use Rattle.index_choice.proofs.not_above.Tie as tie
 
--- one threshold more
-step : (x : Float) (ts : List Float) (k : ℕ) (b : Bool) → k < length ts → le (getD ts k nan) x ≡ b → notAbove x (drop k ts) ≡ cond b 1 0 + notAbove x (drop (k + 1) ts)
-unfolding notAbove
-step x ts k b h e = rw (add-one, drop-cons ts k nan h, e)
+after-first : (c : tie.After-look) → Left (notAbove (c .before .args .x) thresholds) (c .look .result) 4
+after-first c =
+    let n = notAbove (c .before .args .x) thresholds in
+    halved n 0 (c .look .result) 4 3 (at-first n) (omega arith) (omega (arith, c .look .ensures))
 
--- none is left
-end : (x : Float) (ts : List Float) (k : ℕ) → length ts ≤ k → notAbove x (drop k ts) ≡ 0
-unfolding notAbove
-end x ts k h = rw (drop-of-length-le ts h)
+after-second : (c : tie.After-look2) → Left (notAbove (c .before .before .args .x) thresholds) (c .before .look .result + c .look2 .result) 2
+after-second c =
+    let found = c .before .look .result in
+    halved (notAbove (c .before .before .args .x) thresholds) found (found + c .look2 .result) 2 (found + 1) (after-first (c .before)) (omega arith) (omega (arith, c .look2 .ensures))
 
-abbrev Inv-loop : tie.InvT-loop
-Inv-loop x count₀ k₀ count k = (k ≤ 8) × (count ≤ k) × (count + notAbove x (drop k thresholds) ≡ notAbove x thresholds)
+after-third : (c : tie.After-look3)
+    → Left (notAbove (c .before .before .before .args .x) thresholds) (c .before .before .look .result + c .before .look2 .result + c .look3 .result) 1
+after-third c =
+    let found = c .before .before .look .result + c .before .look2 .result in
+    halved (notAbove (c .before .before .before .args .x) thresholds) found (found + c .look3 .result) 1 found (after-second (c .before)) (omega arith) (omega (arith, c .look3 .ensures))
 
-abbrev μ-loop : tie.MeasureT-loop
-μ-loop x count₀ k₀ count k = 8 - k
-
-loop-holds : tie.Need-loop-holds Inv-loop μ-loop
-loop-holds c = (omega arith, omega arith, omega arith)
-
-loop-again : tie.Need-loop-again Inv-loop μ-loop
-loop-again c =
-    let l = c .before .before .loop in
-    let x = c .before .before .before .args .x in
-    ⊎-elim
-    (λ w. (omega arith, omega (arith, w .1), omega (arith, w .1, step x thresholds (l .k) true (omega arith) (w .0 .taken))))
-    (λ w. (omega arith, omega (arith, w .1), omega (arith, w .1, step x thresholds (l .k) false (omega arith) (w .0 .left))))
-    (c .if1 .came)
-
-returns : tie.Need-returns Inv-loop μ-loop
+returns : tie.Need-returns
 returns c =
-    let l = c .before .loop in
-    let x = c .before .before .args .x in
-    omega (arith, l .inv .2, end x thresholds (l .k) (omega arith))
+    let x = c .before .before .before .before .args .x in
+    let found = c .before .before .before .look .result + c .before .before .look2 .result + c .before .look3 .result in
+    counted (notAbove x thresholds) found (found + c .look4 .result) (at-most-all x thresholds) (after-third (c .before)) (omega (arith, c .look4 .ensures))
 
 pub not-above-spec : {M : Type 1} → statement M
 not-above-spec =
     tie.close
     (tie.spec
-    Inv-loop
-    μ-loop
-    loop-holds
-    (λ c. omega arith)
-    (λ c. omega arith)
-    (λ c. omega arith)
-    (λ c. omega arith)
-    (λ c. omega arith)
-    loop-again
+    (λ c κs. search needs)
+    (λ c. omega (arith, after-first c .inside))
+    (λ c κs. omega (arith, after-first c .inside))
+    (λ c. omega (arith, after-second c .inside))
+    (λ c κs. omega (arith, after-second c .inside))
+    (λ c. omega (arith, after-third c .inside))
+    (λ c κs. search needs)
+    (λ c. omega (arith, returns c, at-most-all (c .before .before .before .before .args .x) thresholds))
+    (λ c. omega (arith, returns c, at-most-all (c .before .before .before .before .args .x) thresholds))
     returns)
