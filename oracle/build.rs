@@ -6,7 +6,7 @@ fn main() {
     println!("cargo:rerun-if-changed=build.rs");
     println!("cargo:rerun-if-env-changed=TNS_ARCHIVE");
     let wanted = |word: &str| std::env::var_os(format!("CARGO_FEATURE_{word}")).is_some();
-    if !["DECODE", "RESTART", "ENCODE", "LC3"].into_iter().any(wanted) {
+    if !["DECODE", "RESTART", "ENCODE", "INDEX", "LC3"].into_iter().any(wanted) {
         return;
     }
     if let Ok(archive) = std::env::var("TNS_ARCHIVE") {

@@ -5,7 +5,7 @@
 //! What no word needs is seen in a build with every word: the others leave parts
 //! of the shared rooms unused. A word's own folder has nothing to leave.
 #![cfg_attr(
-    not(all(feature = "decode", feature = "error", feature = "speed")),
+    not(all(feature = "decode", feature = "error", feature = "index", feature = "speed")),
     allow(dead_code, unused_imports)
 )]
 
@@ -19,6 +19,7 @@ mod original;
     feature = "decode",
     feature = "restart",
     feature = "encode",
+    feature = "index",
     feature = "lc3"
 ))]
 mod port;

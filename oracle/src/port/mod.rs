@@ -7,6 +7,8 @@
 mod decoder;
 #[cfg(any(feature = "encode", feature = "lc3"))]
 mod encoder;
+#[cfg(feature = "index")]
+mod index;
 mod lent;
 #[cfg(feature = "restart")]
 mod restart;
@@ -15,6 +17,8 @@ mod restart;
 pub use decoder::{decode, decode_lines};
 #[cfg(any(feature = "encode", feature = "lc3"))]
 pub use encoder::{encode_lines, Loan};
+#[cfg(feature = "index")]
+pub use index::index;
 pub use lent::Lent;
 #[cfg(feature = "restart")]
 pub use restart::{restart_lines, save_lines, Desk, Door, Numbers};

@@ -8,6 +8,8 @@ mod decode;
 mod encode;
 #[cfg(feature = "error")]
 mod error;
+#[cfg(feature = "index")]
+mod index;
 #[cfg(feature = "lc3")]
 mod lc3;
 mod lists;
@@ -27,6 +29,8 @@ pub fn run(word: &str, root: &Path) -> Option<bool> {
         "powi" => powi::run(),
         "cost" => cost::run(root),
         "lists" => lists::run(root),
+        #[cfg(feature = "index")]
+        "index" => index::run(),
         #[cfg(feature = "decode")]
         "decode" => decode::run(),
         #[cfg(feature = "restart")]
