@@ -6,7 +6,8 @@
  * Each line has a kind of call, the time of one call in ns by each build, and the second time in parts of
  * the first. A time is the best of many rounds. In a round each build makes the same calls, one build after
  * the other; which is first changes from round to round. Copying the lines that an encoder call is given is
- * not timed. The second form times nothing: it makes so many cost calls by the first build (BUILD is 0) or the
+ * not timed. An encoder call is timed over 12 frames, which a processor's branch predictor learns by heart, and
+ * with filters on also over 1,024 ("fresh"), which it cannot, as it cannot those of a stream. The second form times nothing: it makes so many cost calls by the first build (BUILD is 0) or the
  * second (1), of the first kind of side data (KIND is 0) or another (1 to 3), for valgrind to count. Status 0, or
  * 1 if the words are wrong, a build cannot be loaded, or the two builds do not give the same: bits of the cost calls,
  * and answers, lines, side data and coefficients of the encoder calls. The second form compares nothing.
@@ -21,7 +22,7 @@
 #include <string.h>
 #include <time.h>
 
-enum { SIDES = 256, FRAMES = 12, ROUNDS = 20000, LINES = 400 };
+enum { SIDES = 256, FEW = 12, MANY = 1024, ROUNDS = 20000, LINES = 400 };
 
 typedef tns_answer cost_call(uint8_t, uint8_t, const uint8_t *, size_t, const uint8_t *, size_t);
 typedef tns_answer encode_call(uint8_t, uint8_t, uint64_t, bool, float *, size_t, uint8_t *, float *);
@@ -35,14 +36,14 @@ static struct {
     uint8_t weighting, filters, orders[2], indices[16];
 } sides[SIDES];
 
-static float given[FRAMES][LINES];
+static float given[MANY][LINES];
 
 /* What an encoder call leaves, by build. */
 static struct left {
     float lines[LINES], coefficients[16];
     uint8_t side[20];
     tns_answer answer;
-} left[2][FRAMES];
+} left[2][MANY];
 
 static uint32_t state = 1;
 
@@ -135,9 +136,10 @@ static void time_encode(uint8_t duration, uint8_t bandwidth, const char *input)
     size_t length = lengths[duration][bandwidth];
     double best[2] = {1e18, 1e18};
     char what[64];
-    bool flag = !strcmp(input, "flag"), silent = !strcmp(input, "silence");
+    bool flag = !strcmp(input, "flag"), silent = !strcmp(input, "silence"), fresh = !strcmp(input, "on, fresh");
+    int frames = fresh ? MANY : FEW, rounds = ROUNDS * FEW / frames;
     /* Lines that resemble their neighbours, such that every band gets a filter if it may. */
-    for (int f = 0; f < FRAMES; f++) {
+    for (int f = 0; f < frames; f++) {
         struct left *its = &left[0][f];
         do {
             float line = 0;
@@ -150,26 +152,26 @@ static void time_encode(uint8_t duration, uint8_t bandwidth, const char *input)
         } while (!its->side[2] || (its->side[1] == 2 && !its->side[3]));
         if (silent) memset(given[f], 0, sizeof given[f]);
     }
-    for (int round = 0; round < ROUNDS; round++) {
+    for (int round = 0; round < rounds; round++) {
         for (int turn = 0; turn < 2; turn++) {
             int build = (round + turn) % 2;
             struct left *its = left[build];
-            for (int f = 0; f < FRAMES; f++) memcpy(its[f].lines, given[f], sizeof given[f]);
+            for (int f = 0; f < frames; f++) memcpy(its[f].lines, given[f], sizeof given[f]);
             double began = now();
-            for (int f = 0; f < FRAMES; f++)
+            for (int f = 0; f < frames; f++)
                 its[f].answer = builds[build].encode(duration, bandwidth, 320, flag, its[f].lines, length, its[f].side, its[f].coefficients);
-            double taken = (now() - began) / FRAMES;
+            double taken = (now() - began) / frames;
             if (taken < best[build]) best[build] = taken;
         }
     }
-    if (memcmp(left[0], left[1], sizeof left[0])) fail("encoder results differ");
+    if (memcmp(left[0], left[1], (size_t)frames * sizeof left[0][0])) fail("encoder results differ");
     snprintf(what, sizeof what, "encode %s ms bandwidth %d, %s", duration ? "7.5" : "10", bandwidth, input);
     told(what, best);
 }
 
 int main(int count, char **words)
 {
-    static const char *const inputs[] = {"on", "flag", "silence"};
+    static const char *const inputs[] = {"on", "on, fresh", "flag", "silence"};
     if (count != 3 && count != 6) fail("usage: turns BEFORE.so AFTER.so [BUILD KIND CALLS]");
     load(0, words[1]);
     load(1, words[2]);
@@ -180,7 +182,7 @@ int main(int count, char **words)
     }
     printf("%-51s %9s %9s %8s\n", "a call, in ns", "before", "after", "ratio");
     for (int kind = 0; kind < 4; kind++) time_cost(kinds[kind]);
-    for (int input = 0; input < 3; input++)
+    for (int input = 0; input < 4; input++)
         for (uint8_t duration = 0; duration < 2; duration++)
             for (uint8_t bandwidth = 0; bandwidth < 5; bandwidth++) time_encode(duration, bandwidth, inputs[input]);
     return 0;

@@ -34,7 +34,7 @@ index-at-most x = chosen (le f0 x && le x f1) (le (neg f1) x && le x f0) (at-mos
     chosen false true h = omega arith
     chosen false false h = omega arith
 
-either-at-most : (b : Bool) (x y n : ℕ) → x ≤ n → y ≤ n → cond b x y ≤ n
+pub either-at-most : (b : Bool) (x y n : ℕ) → x ≤ n → y ≤ n → cond b x y ≤ n
 either-at-most true x y n h k = h
 either-at-most false x y n h k = k
 

@@ -11,6 +11,7 @@ use lib.Ieee.Fits.{down-pos}
 use borrow.Author.Tests.{ltb-true, ltb-false, eqb-true, lt-ltb, le-ltb, eq-eqb, ne-eqb}
 use Rattle.law_rounding.specs.Floats.{f0, f1}
 use Rattle.index_choice.specs.Indices.{indexOf, notAbove, thresholds}
+use Rattle.index_choice.proofs.Indices.{at-most-all, either-at-most}
 
 -- ---- how two whole numbers compare, in the form that `le` of two floats comes to
 
@@ -98,6 +99,9 @@ sizeOf x = cond (lt x f0) (neg x) x
 -- how many thresholds are not above a size that is at most 1, and 0 of any other
 abbrev pub countOf : Float → ℕ
 countOf size = cond (le size f1) (notAbove size thresholds) 0
+
+pub few : (size : Float) → countOf size ≤ 8
+few size = either-at-most (le size f1) (notAbove size thresholds) 0 8 (at-most-all size thresholds) (omega arith)
 
 -- the rule's tests as Bools: in 0..1 by a and b, in -1..0 by c and d
 off : (a b c d e : Bool) (n m : ℕ) → a ≡ false → d ≡ true → c ≡ e → 8 - cond e m 0 ≡ cond (a && b) (8 + n) (cond (c && d) (8 - m) 8)

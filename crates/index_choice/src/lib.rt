@@ -57,25 +57,26 @@ fn look(x: f32, place: u32, step: u32) -> u32
 
 // How many thresholds are not above `x`. Three looks halve the first seven, and the fourth is at the last. The
 // steps are added up and nothing branches: no processor can foresee in which half a coefficient will be.
-fn not_above(x: f32) -> u8
+fn not_above(x: f32) -> u32
     ensures { λ r. ⌜ r ≡ notAbove x thresholds ⌝ }
 {
     let by_fours = look(x, 3, 4);
     let by_twos = by_fours + look(x, by_fours + 1, 2);
     let by_ones = by_twos + look(x, by_twos, 1);
-    let count = by_ones + look(x, 7, 1);
-    count as u8
+    by_ones + look(x, 7, 1)
 }
 
 // The index of a reflection coefficient, for every f32. The search goes by its size, and its sign decides only
-// at the end, without a branch: signs cannot be foreseen either. NaN is not at most 1, and counts as 0.
+// at the end, without a branch: signs cannot be foreseen either. NaN is not at most 1, and counts as 0. Numbers
+// stay as wide as an f32 up to the last line, so that the compiler takes some of a filter's eight side by side
+// (docs/DECISIONS.md, "Speed").
 pub fn index_of(x: f32) -> u8
     ensures { λ r. ⌜ r ≡ indexOf x ⌝ }
 {
     let size = if x < 0.0 { -x } else { x };
-    let found = not_above(size);
-    let count = if size <= 1.0 { found } else { 0 };
-    if x < 0.0 { 8 - count } else { 8 + count }
+    let count = step_if(size <= 1.0, not_above(size));
+    let index = if x < 0.0 { 8 - count } else { 8 + count };
+    index as u8
 }
 
 // The order of a filter: its last place whose index is not 8, counted from 1, or 0.

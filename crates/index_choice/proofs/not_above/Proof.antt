@@ -42,5 +42,4 @@ not-above-spec =
     (λ c. omega (arith, after-third c .inside))
     (λ c κs. search needs)
     (λ c. omega (arith, returns c, at-most-all (c .before .before .before .before .args .x) thresholds))
-    (λ c. omega (arith, returns c, at-most-all (c .before .before .before .before .args .x) thresholds))
     returns)
