@@ -1,4 +1,4 @@
--- The rules of the thresholds beside the coefficients, each one test that the checker computes over both tables.
+-- The rules of the thresholds, alone and beside the coefficients: each is one test that the checker computes over the tables.
 use mathlib.Core.Path.{_≡_, refl}
 use mathlib.Core.Bool.{Bool, true, _&&_}
 use mathlib.Core.List.{List, [], _∷_}
@@ -29,7 +29,7 @@ pub thresholds-between : risingFrom (neg f1) (alternate (drop 8 coefficients) th
 unfolding risingFrom alternate lt neg ofBits
 thresholds-between = refl
 
--- the thresholds are finite and above 0, and they rise: a search may halve them
+-- the thresholds are finite and above 0, and each is above the one before it, so that a search may halve them
 pub thresholds-positive : every positive thresholds ≡ true
 unfolding ofBits
 thresholds-positive = refl
