@@ -5,7 +5,12 @@
 //! What no word needs is seen in a build with every word: the others leave parts
 //! of the shared rooms unused. A word's own folder has nothing to leave.
 #![cfg_attr(
-    not(all(feature = "decode", feature = "error", feature = "index", feature = "speed")),
+    not(all(
+        feature = "decode",
+        feature = "error",
+        feature = "index",
+        feature = "speed"
+    )),
     allow(dead_code, unused_imports)
 )]
 

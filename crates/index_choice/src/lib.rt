@@ -56,7 +56,7 @@ fn look(x: f32, place: u32, step: u32) -> u32
 }
 
 // How many thresholds are not above `x`. Three looks halve the first seven, and the fourth is at the last. The
-// steps are added up and nothing branches: no processor can foresee in which half a coefficient will be.
+// steps are added up, so that nothing has to branch: no processor can foresee in which half a coefficient is.
 fn not_above(x: f32) -> u32
     ensures { λ r. ⌜ r ≡ notAbove x thresholds ⌝ }
 {
@@ -66,10 +66,10 @@ fn not_above(x: f32) -> u32
     by_ones + look(x, 7, 1)
 }
 
-// The index of a reflection coefficient, for every f32. The search goes by its size, and its sign decides only
-// at the end, without a branch: signs cannot be foreseen either. NaN is not at most 1, and counts as 0. Numbers
-// stay as wide as an f32 up to the last line, so that the compiler takes some of a filter's eight side by side
-// (docs/DECISIONS.md, "Speed").
+// The index of a reflection coefficient, for every f32. The search goes by its size, and its sign, which cannot
+// be foreseen either, decides only what becomes of the count. NaN is not at most 1, and counts as 0. Numbers
+// stay as wide as an f32 up to the last line: so the compiler takes six of a filter's eight side by side and
+// lays out the analysis around them as before (docs/DECISIONS.md, "Speed").
 pub fn index_of(x: f32) -> u8
     ensures { λ r. ⌜ r ≡ indexOf x ⌝ }
 {
