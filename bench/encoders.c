@@ -2,8 +2,8 @@
  *
  *   encoders BUILD.so..
  *
- * Prints, for each kind of call, the time of a call of the first build in ns, and that of each build in parts of it. The
- * kinds are 10 ms at bandwidths 0 and 4: with filters on over 12 frames, over 1,024 ("fresh"), and with filters
+ * Prints, for each kind of call, the time of a call of the first build in ns, and each build's ratio to it. The kinds
+ * are 10 ms at bandwidths 0 and 4: with filters on over 12 frames, over 1,024 ("fresh"), and with filters
  * off by the flag. bench/turns.c says why both. A time is the best of many rounds, in which each build makes the same
  * calls. Status 1 if the builds do not give the same.
  *

@@ -2,18 +2,19 @@
  *
  *   index random > COEFFICIENTS
  *   index BUILD.so.. : WHAT=COEFFICIENTS..
- *   index BUILD.so COEFFICIENTS one|eight EIGHTS
+ *   index BUILD.so COEFFICIENTS one|eight FILTERS
  *
- * A build has `index_of_one` and `indices_of_eight` (bench/index_calls); without the latter only the former is timed.
- * COEFFICIENTS is a file of f32, eight to a filter. The first form makes such a file of 4,096 times eight numbers between -1 and 1, all as likely.
+ * A build has `index_of_one` and `indices_of_eight` (bench/index_calls); where one has no `indices_of_eight`, only
+ * the other is timed. COEFFICIENTS is a file of f32, eight to a filter, of at most 16,384 filters. The first form makes
+ * such a file of 4,096 times eight numbers between -1 and 1, all as likely.
  *
  * The second form prints a line for each file and for each of the two functions: the time in ns that each build takes
- * for eight numbers, and that time in parts of the first build's. A time is the best of many rounds. In a round
+ * for the eight numbers of a filter, and its ratio to the first build's. A time is the best of many rounds. In a round
  * each build goes once through the whole file, one build after the other; which is first changes from round to
- * round. The files are too long for a processor to learn their signs and sizes by heart. Status 1 if the builds do not
- * give the same.
+ * round. A file of thousands of filters is too long for a processor to learn its signs and sizes by heart. Status 1
+ * if the builds, or the two functions, do not give the same indices.
  *
- * The third form times nothing: it makes the calls for so many eights, from the file's start again where it ends, for
+ * The third form times nothing: it makes the calls for so many filters, from the file's start again where it ends, for
  * valgrind to count.
  *
  * Assumes Linux, x86-64 and an idle machine.
@@ -27,7 +28,7 @@
 #include <string.h>
 #include <time.h>
 
-enum { BUILDS = 16, EIGHTS = 8192, ROUNDS = 400 };
+enum { BUILDS = 16, FILTERS = 16384, ROUNDS = 400 };
 
 typedef struct {
     uint8_t index[8], order;
@@ -38,8 +39,8 @@ static struct build {
     eight (*all)(float, float, float, float, float, float, float, float);
 } builds[BUILDS];
 
-static float given[EIGHTS][8];
-static eight got[BUILDS][EIGHTS];
+static float given[FILTERS][8];
+static eight got[BUILDS][FILTERS];
 
 static void fail(const char *why)
 {
@@ -63,54 +64,58 @@ static void load(struct build *build, const char *path)
     if (!build->one) fail("no index_of_one");
 }
 
-/* How many eights the file has. */
+/* How many filters the file has. */
 static size_t fill(const char *path)
 {
     FILE *file = fopen(path, "rb");
     if (!file) fail("cannot read the coefficients");
-    size_t eights = fread(given, sizeof given[0], EIGHTS, file);
+    size_t filters = fread(given, sizeof given[0], FILTERS, file);
+    if (!filters || getc(file) != EOF) fail("no coefficients, not eight to a filter, or too many");
     fclose(file);
-    if (!eights) fail("no coefficients");
-    return eights;
+    return filters;
 }
 
-static void one_by_one(struct build build, size_t eights, eight *to)
+static void one_by_one(struct build build, size_t filters, eight *to)
 {
-    for (size_t e = 0; e < eights; e++)
-        for (int k = 0; k < 8; k++) to[e].index[k] = build.one(given[e][k]);
+    for (size_t f = 0; f < filters; f++)
+        for (int k = 0; k < 8; k++) to[f].index[k] = build.one(given[f][k]);
 }
 
-static void all_eight(struct build build, size_t eights, eight *to)
+static void all_eight(struct build build, size_t filters, eight *to)
 {
-    for (size_t e = 0; e < eights; e++) {
-        const float *x = given[e];
-        to[e] = build.all(x[0], x[1], x[2], x[3], x[4], x[5], x[6], x[7]);
+    for (size_t f = 0; f < filters; f++) {
+        const float *x = given[f];
+        to[f] = build.all(x[0], x[1], x[2], x[3], x[4], x[5], x[6], x[7]);
     }
 }
 
-static void time_calls(const char *what, const char *call, int count, size_t eights)
+typedef void calls(struct build, size_t, eight *);
+
+static void time_calls(const char *what, const char *how, calls *calls, int count, size_t filters)
 {
     double best[BUILDS];
+    char line[64];
     for (int b = 0; b < count; b++) best[b] = 1e18;
     memset(got, 0, sizeof got);
     for (int round = 0; round < ROUNDS; round++) {
         for (int turn = 0; turn < count; turn++) {
             int b = (round + turn) % count;
             double began = now();
-            if (*call == 'o')
-                one_by_one(builds[b], eights, got[b]);
-            else
-                all_eight(builds[b], eights, got[b]);
-            double taken = (now() - began) / (double)eights;
+            calls(builds[b], filters, got[b]);
+            double taken = (now() - began) / (double)filters;
             if (taken < best[b]) best[b] = taken;
         }
     }
-    printf("%-34s", what);
+    snprintf(line, sizeof line, "%s, %s at a time", what, how);
+    printf("%-34s", line);
     for (int b = 0; b < count; b++) {
-        if (memcmp(got[b], got[0], sizeof got[0])) fail("indices differ");
+        if (memcmp(got[b], got[0], sizeof got[0])) fail("the builds' indices differ");
         printf(b ? " %7.1f %6.3f" : " %7.1f", best[b], best[b] / best[0]);
     }
     putchar('\n');
+    for (size_t f = 0; f < filters; f++)
+        for (int k = 0; k < 8; k++)
+            if (got[0][f].index[k] != builds[0].one(given[f][k])) fail("eight indices are not those of one at a time");
 }
 
 static void write_random(void)
@@ -127,6 +132,8 @@ static void write_random(void)
 
 int main(int count, char **words)
 {
+    static const char usage[] =
+        "usage: index random | index BUILD.so.. : WHAT=COEFFICIENTS.. | index BUILD.so COEFFICIENTS one|eight FILTERS";
     int last = 1;
     if (count == 2 && !strcmp(words[1], "random")) {
         write_random();
@@ -134,31 +141,28 @@ int main(int count, char **words)
     }
     while (last < count && strcmp(words[last], ":")) last++;
     if (count == 5 && last == count) {
+        bool one = !strcmp(words[3], "one");
+        if (!one && strcmp(words[3], "eight")) fail(usage);
         load(&builds[0], words[1]);
-        size_t eights = fill(words[2]);
-        for (long left = atol(words[4]); left > 0; left -= (long)eights) {
-            size_t some = (size_t)left < eights ? (size_t)left : eights;
-            if (*words[3] == 'o')
-                one_by_one(builds[0], some, got[0]);
-            else
-                all_eight(builds[0], some, got[0]);
-        }
+        if (!one && !builds[0].all) fail("no indices_of_eight");
+        size_t filters = fill(words[2]);
+        for (long left = atol(words[4]); left > 0; left -= (long)filters)
+            (one ? one_by_one : all_eight)(builds[0], (size_t)left < filters ? (size_t)left : filters, got[0]);
         return 0;
     }
-    if (last < 2 || last - 1 > BUILDS || last + 1 >= count) fail("usage: index BUILD.so.. : WHAT=COEFFICIENTS..");
-    for (int b = 1; b < last; b++) load(&builds[b - 1], words[b]);
+    if (last < 2 || last - 1 > BUILDS || last + 1 >= count) fail(usage);
+    bool has_all = true;
+    for (int b = 0; b < last - 1; b++) {
+        load(&builds[b], words[b + 1]);
+        has_all = has_all && builds[b].all;
+    }
     for (int w = last + 1; w < count; w++) {
-        char *file = strchr(words[w], '='), line[64];
-        if (!file) fail("no file of coefficients");
+        char *file = strchr(words[w], '=');
+        if (!file) fail(usage);
         *file++ = 0;
-        size_t eights = fill(file);
-        snprintf(line, sizeof line, "%s, one at a time", words[w]);
-        time_calls(line, "one", last - 1, eights);
-        bool has_all = true;
-        for (int b = 0; b < last - 1; b++) has_all = has_all && builds[b].all;
-        if (!has_all) continue;
-        snprintf(line, sizeof line, "%s, eight at a time", words[w]);
-        time_calls(line, "eight", last - 1, eights);
+        size_t filters = fill(file);
+        time_calls(words[w], "one", one_by_one, last - 1, filters);
+        if (has_all) time_calls(words[w], "eight", all_eight, last - 1, filters);
     }
     return 0;
 }

@@ -6,11 +6,14 @@
  * Each line has a kind of call, the time of one call in ns by each build, and the second time in parts of
  * the first. A time is the best of many rounds. In a round each build makes the same calls, one build after
  * the other; which is first changes from round to round. Copying the lines that an encoder call is given is
- * not timed. An encoder call is timed over 12 frames, which a processor's branch predictor learns by heart, and
- * with filters on also over 1,024 ("fresh"), which it cannot, as it cannot those of a stream. The second form times nothing: it makes so many cost calls by the first build (BUILD is 0) or the
- * second (1), of the first kind of side data (KIND is 0) or another (1 to 3), for valgrind to count. Status 0, or
- * 1 if the words are wrong, a build cannot be loaded, or the two builds do not give the same: bits of the cost calls,
- * and answers, lines, side data and coefficients of the encoder calls. The second form compares nothing.
+ * not timed. An encoder call is timed over 12 frames, which a processor's branch predictor learns by heart,
+ * and with filters on also over 1,024 ("fresh"), which it cannot learn, as it cannot those of a stream.
+ *
+ * The second form times nothing: it makes so many cost calls by the first build (BUILD is 0) or the second (1), of the
+ * first kind of side data (KIND is 0) or another (1 to 3), for valgrind to count.
+ *
+ * Status 0, or 1 if the words are wrong, a build cannot be loaded, or the two builds do not give the same: bits of the
+ * cost calls, and answers, lines, side data and coefficients of the encoder calls. The second form compares nothing.
  *
  * Assumes Linux, x86-64 and an idle machine.
  */

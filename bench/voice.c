@@ -8,9 +8,9 @@
  * 320 lines (bandwidth 3, two filters). The coefficients are worked out by docs/RULES.md, "Analysis", in its order of
  * f32 operations, for 320 bits. Those of the filters that are on are written, eight f32 each.
  *
- * LIBRARY.so has `tns_encode`, which encodes each frame. A filter that is on there and off here, or the other way, or
- * an index that is not that of its coefficient by the thresholds, ends the program with status 1: what is written is
- * what the encoder quantizes. Standard error gets how many frames and filters there were.
+ * LIBRARY.so has `tns_encode`, which encodes each frame. The program ends with status 1 if one of the encoder's indices
+ * is not that of the coefficient here, by the thresholds one after the other, or not 8 where the filter is off here.
+ * Standard error gets how many frames and filters there were.
  *
  * Assumes Linux, x86-64, and a compiler that fuses no products and sums (-ffp-contract=off).
  */

@@ -1,6 +1,7 @@
-//! Links the port's static library into the words that call it: each of them
-//! is a feature of this crate. Without such a feature nothing is linked.
-//! Assumes that the variable TNS_ARCHIVE holds the library's full path.
+//! Links the port's static library into the words that call it, or for the word
+//! index that of the index choice alone: each of them is a feature of this crate.
+//! Without such a feature nothing is linked. Assumes that the variable
+//! TNS_ARCHIVE holds the library's full path.
 
 fn main() {
     println!("cargo:rerun-if-changed=build.rs");

@@ -18,7 +18,7 @@ use Rattle.index_coefficients.specs.CoefficientRules.{risingFrom}
 use Rattle.index_choice.specs.Indices.{notAbove, thresholds}
 use Rattle.index_choice.specs.IndexRules.{thresholds-positive, thresholds-rise}
 
--- ---- below a number that is not above x, no number is
+-- ---- a number and another below it, beside x
 
 true-of : (b : Bool) → b ≡ true → T b
 true-of b e = subst T (sym e) tt
@@ -62,7 +62,7 @@ none-after x t (u ∷ us) p all rises k =
     let n : notAbove x us ≡ 0 = none-after x u us q (and-right (positive u) (every positive us) all) (and-right (lt t u) (risingFrom u us) rises) l in
     rw l (omega arith)
 
--- a list by its first number, which is counted, or else none is
+-- a list by its first number: where that is not counted, no number is
 by-the-first : (x t : Float) (ts : List Float) (b : Bool) → le t x ≡ b → (b ≡ false → notAbove x ts ≡ 0)
     → ((k : ℕ) → k < length ts → le (getD ts k nan) x ≡ ltb k (notAbove x ts))
     → (k : ℕ) → k < suc (length ts) → le (getD (t ∷ ts) k nan) x ≡ ltb k (cond b 1 0 + notAbove x ts)
@@ -92,8 +92,8 @@ looked x place h = first-part x f0 thresholds thresholds-positive thresholds-ris
 
 -- ---- what is left after looks
 
--- Of the eight thresholds n are not above x. Of the first seven that is true of `found` or more, and of fewer than `found + left`: so many numbers are
--- left for their count.
+-- Of the eight thresholds n are not above x. Of the first seven it is `found` or more, and fewer than `found + left`: the count of these can still be
+-- one of `left` numbers.
 pub record Left (n found left : ℕ) : Type 0 where
   pub least : found ≤ min n 7
   pub below : min n 7 < found + left

@@ -92,7 +92,7 @@ at-most-zero x h = rw h
 
 -- ---- the index
 
--- x without its sign
+-- x, turned around where it is below 0
 abbrev pub sizeOf : Float → Float
 sizeOf x = cond (lt x f0) (neg x) x
 
@@ -104,26 +104,26 @@ pub few : (size : Float) → countOf size ≤ 8
 few size = either-at-most (le size f1) (notAbove size thresholds) 0 8 (at-most-all size thresholds) (omega arith)
 
 -- the rule's tests as Bools: in 0..1 by a and b, in -1..0 by c and d
-off : (a b c d e : Bool) (n m : ℕ) → a ≡ false → d ≡ true → c ≡ e → 8 - cond e m 0 ≡ cond (a && b) (8 + n) (cond (c && d) (8 - m) 8)
-off a b c d true n m p q r = rw (p, q, r)
-off a b c d false n m p q r = rw (p, r) (omega arith)
+by-difference : (a b c d e : Bool) (n m : ℕ) → a ≡ false → d ≡ true → c ≡ e → 8 - cond e m 0 ≡ cond (a && b) (8 + n) (cond (c && d) (8 - m) 8)
+by-difference a b c d true n m p q r = rw (p, q, r)
+by-difference a b c d false n m p q r = rw (p, r) (omega arith)
 
-on : (a b c d : Bool) (n m : ℕ) → (b ≡ true → a ≡ true) → (b ≡ false → d ≡ false) → 8 + cond b n 0 ≡ cond (a && b) (8 + n) (cond (c && d) (8 - m) 8)
-on a true c d n m p q = rw (p refl)
-on true false true d n m p q = rw (q refl) (omega arith)
-on true false false d n m p q = omega arith
-on false false true d n m p q = rw (q refl) (omega arith)
-on false false false d n m p q = omega arith
+by-sum : (a b c d : Bool) (n m : ℕ) → (b ≡ true → a ≡ true) → (b ≡ false → d ≡ false) → 8 + cond b n 0 ≡ cond (a && b) (8 + n) (cond (c && d) (8 - m) 8)
+by-sum a true c d n m p q = rw (p refl)
+by-sum true false true d n m p q = rw (q refl) (omega arith)
+by-sum true false false d n m p q = omega arith
+by-sum false false true d n m p q = rw (q refl) (omega arith)
+by-sum false false false d n m p q = omega arith
 
 -- below 0
 pub taken-off : (x : Float) → lt x f0 ≡ true → 8 - countOf (sizeOf x) ≡ indexOf x
 unfolding indexOf
 taken-off x h =
     rw h
-    (off (le f0 x) (le x f1) (le (neg f1) x) (le x f0) (le (neg x) f1) (notAbove x thresholds) (notAbove (neg x) thresholds) (below-zero x h) (at-most-zero x h) (turned x h))
+    (by-difference (le f0 x) (le x f1) (le (neg f1) x) (le x f0) (le (neg x) f1) (notAbove x thresholds) (notAbove (neg x) thresholds) (below-zero x h) (at-most-zero x h) (turned x h))
 
 -- not below 0, or NaN
 pub added : (x : Float) → lt x f0 ≡ false → 8 + countOf (sizeOf x) ≡ indexOf x
 unfolding indexOf
 added x h =
-    rw h (on (le f0 x) (le x f1) (le (neg f1) x) (le x f0) (notAbove x thresholds) (notAbove (neg x) thresholds) (within-one x h) (beyond-one x h))
+    rw h (by-sum (le f0 x) (le x f1) (le (neg f1) x) (le x f0) (notAbove x thresholds) (notAbove (neg x) thresholds) (within-one x h) (beyond-one x h))

@@ -21,8 +21,8 @@ const THRESHOLDS: [f32; 8] = [
 ];
 
 // The threshold at a place. The places stand in a `match`, so that the compiler keeps the table as a constant
-// and does not write it out at each look. `place` is required to be one of the eight, as it is at each of the
-// four looks: a test of it would take as long as a look.
+// and does not write it out at each look. `place` is required to be one of the eight, which is known at each of
+// the four looks, so that there is no answer to invent for a ninth.
 fn threshold(place: u32) -> f32
     requires { ⌜ place < 8 ⌝ }
     ensures { λ r. ⌜ r ≡ getD thresholds place nan ⌝ }
@@ -39,7 +39,7 @@ fn threshold(place: u32) -> f32
     }
 }
 
-// A step of the search, which a test decides on.
+// `step` if the test holds, and 0 if not.
 fn step_if(test: bool, step: u32) -> u32
     ensures { λ r. ⌜ r ≡ cond test step 0 ⌝ }
 {

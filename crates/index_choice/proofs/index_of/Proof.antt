@@ -1,4 +1,4 @@
--- The size is x without its sign, and the count is that of the size, or 0 past 1: by `Sizes` that is the rule's index.
+-- The size is x, turned around where it is below 0, and the count is that of the size, or 0 past 1: by `Sizes` that is the rule's index.
 use mathlib.Core.Path.{_≡_, _∙_, ap}
 use mathlib.Core.Bool.{Bool, true, false, cond}
 use mathlib.Core.Logic.{⊎-elim}
