@@ -1,7 +1,8 @@
-/* Times the cost call and the encoder of two builds of the library by turns, and compares what they give.
+/* Times the cost call and the encoder of builds of the library by turns, and compares what they give.
  *
  *   turns BEFORE.so AFTER.so
  *   turns BEFORE.so AFTER.so BUILD KIND CALLS
+ *   turns encoders BUILD.so..
  *
  * Each line has a kind of call, the time of one call in ns by each build, and the second time in parts of
  * the first. A time is the best of many rounds. In a round each build makes the same calls, one build after
@@ -12,8 +13,11 @@
  * The second form times nothing: it makes so many cost calls by the first build (BUILD is 0) or the second (1), of the
  * first kind of side data (KIND is 0) or another (1 to 3), for valgrind to count.
  *
- * Status 0, or 1 if the words are wrong, a build cannot be loaded, or the two builds do not give the same: bits of the
- * cost calls, and answers, lines, side data and coefficients of the encoder calls. The second form compares nothing.
+ * The third form times the encoder of up to 16 builds, at 10 ms and bandwidths 0 and 4 alone, with a tenth of the
+ * rounds. A line has the kind of call without spaces, and the ratio of each build's time to the first build's.
+ *
+ * Status 0, or 1 if the words are wrong, a build cannot be loaded, or the builds do not give the same: bits of the cost
+ * calls, and answers, lines, side data and coefficients of the encoder calls. The second form compares nothing.
  *
  * Assumes Linux, x86-64 and an idle machine.
  */
@@ -25,7 +29,7 @@
 #include <string.h>
 #include <time.h>
 
-enum { SIDES = 256, FEW = 12, MANY = 1024, ROUNDS = 20000, LINES = 400 };
+enum { BUILDS = 16, SIDES = 256, FEW = 12, MANY = 1024, ROUNDS = 20000, LINES = 400 };
 
 typedef tns_answer cost_call(uint8_t, uint8_t, const uint8_t *, size_t, const uint8_t *, size_t);
 typedef tns_answer encode_call(uint8_t, uint8_t, uint64_t, bool, float *, size_t, uint8_t *, float *);
@@ -33,7 +37,7 @@ typedef tns_answer encode_call(uint8_t, uint8_t, uint64_t, bool, float *, size_t
 static struct {
     cost_call *cost;
     encode_call *encode;
-} builds[2];
+} builds[BUILDS];
 
 static struct {
     uint8_t weighting, filters, orders[2], indices[16];
@@ -46,7 +50,7 @@ static struct left {
     float lines[LINES], coefficients[16];
     uint8_t side[20];
     tns_answer answer;
-} left[2][MANY];
+} left[BUILDS][MANY];
 
 static uint32_t state = 1;
 
@@ -69,13 +73,13 @@ static void fail(const char *why)
     exit(1);
 }
 
-static void load(int build, const char *path)
+static void load(int build, const char *path, bool needs_cost)
 {
     void *library = dlopen(path, RTLD_NOW | RTLD_LOCAL);
     if (!library) fail(dlerror());
     *(void **)&builds[build].cost = dlsym(library, "tns_cost");
     *(void **)&builds[build].encode = dlsym(library, "tns_encode");
-    if (!builds[build].cost || !builds[build].encode) fail("a call is missing");
+    if (!builds[build].encode || (needs_cost && !builds[build].cost)) fail("a call is missing");
 }
 
 static void told(const char *what, const double best[2])
@@ -133,14 +137,13 @@ static void time_cost(struct kind kind)
     told(kind.what, best);
 }
 
-static void time_encode(uint8_t duration, uint8_t bandwidth, const char *input)
+/* The best time of an encoder call by each build, over so many rounds of the few frames. */
+static void time_encode(uint8_t duration, uint8_t bandwidth, const char *input, int count, int rounds, double *best)
 {
     static const size_t lengths[2][5] = {{80, 160, 240, 320, 400}, {60, 120, 180, 240, 300}};
     size_t length = lengths[duration][bandwidth];
-    double best[2] = {1e18, 1e18};
-    char what[64];
     bool flag = !strcmp(input, "flag"), silent = !strcmp(input, "silence"), fresh = !strcmp(input, "on, fresh");
-    int frames = fresh ? MANY : FEW, rounds = ROUNDS * FEW / frames;
+    int frames = fresh ? MANY : FEW;
     /* Lines that resemble their neighbours, such that every band gets a filter if it may. */
     for (int f = 0; f < frames; f++) {
         struct left *its = &left[0][f];
@@ -155,9 +158,10 @@ static void time_encode(uint8_t duration, uint8_t bandwidth, const char *input)
         } while (!its->side[2] || (its->side[1] == 2 && !its->side[3]));
         if (silent) memset(given[f], 0, sizeof given[f]);
     }
-    for (int round = 0; round < rounds; round++) {
-        for (int turn = 0; turn < 2; turn++) {
-            int build = (round + turn) % 2;
+    for (int build = 0; build < count; build++) best[build] = 1e18;
+    for (int round = 0; round < rounds * FEW / frames; round++) {
+        for (int turn = 0; turn < count; turn++) {
+            int build = (round + turn) % count;
             struct left *its = left[build];
             for (int f = 0; f < frames; f++) memcpy(its[f].lines, given[f], sizeof given[f]);
             double began = now();
@@ -167,17 +171,47 @@ static void time_encode(uint8_t duration, uint8_t bandwidth, const char *input)
             if (taken < best[build]) best[build] = taken;
         }
     }
-    if (memcmp(left[0], left[1], (size_t)frames * sizeof left[0][0])) fail("encoder results differ");
-    snprintf(what, sizeof what, "encode %s ms bandwidth %d, %s", duration ? "7.5" : "10", bandwidth, input);
-    told(what, best);
+    for (int build = 1; build < count; build++)
+        if (memcmp(left[0], left[build], (size_t)frames * sizeof left[0][0])) fail("encoder results differ");
+}
+
+static void time_rows(void)
+{
+    static const char *const inputs[] = {"on", "on, fresh", "flag", "silence"};
+    for (int input = 0; input < 4; input++)
+        for (uint8_t duration = 0; duration < 2; duration++)
+            for (uint8_t bandwidth = 0; bandwidth < 5; bandwidth++) {
+                double best[2];
+                char what[64];
+                time_encode(duration, bandwidth, inputs[input], 2, ROUNDS, best);
+                snprintf(what, sizeof what, "encode %s ms bandwidth %d, %s", duration ? "7.5" : "10", bandwidth, inputs[input]);
+                told(what, best);
+            }
+}
+
+static void time_encoders(int count)
+{
+    static const char *const inputs[] = {"on", "on, fresh", "flag"}, *const names[] = {"on", "fresh", "flag"};
+    for (uint8_t bandwidth = 0; bandwidth < 5; bandwidth += 4)
+        for (int input = 0; input < 3; input++) {
+            double best[BUILDS];
+            time_encode(0, bandwidth, inputs[input], count, ROUNDS / 10, best);
+            printf("%s%d", names[input], bandwidth);
+            for (int build = 0; build < count; build++) printf(" %.3f", best[build] / best[0]);
+            putchar('\n');
+        }
 }
 
 int main(int count, char **words)
 {
-    static const char *const inputs[] = {"on", "on, fresh", "flag", "silence"};
-    if (count != 3 && count != 6) fail("usage: turns BEFORE.so AFTER.so [BUILD KIND CALLS]");
-    load(0, words[1]);
-    load(1, words[2]);
+    if (count > 2 && count - 2 <= BUILDS && !strcmp(words[1], "encoders")) {
+        for (int build = 0; build < count - 2; build++) load(build, words[build + 2], false);
+        time_encoders(count - 2);
+        return 0;
+    }
+    if (count != 3 && count != 6) fail("usage: turns BEFORE.so AFTER.so [BUILD KIND CALLS] | turns encoders BUILD.so..");
+    load(0, words[1], true);
+    load(1, words[2], true);
     if (count == 6) {
         draw_sides(kinds[atoi(words[4]) % 4]);
         printf("%u\n", (unsigned)costs(atoi(words[3]) % 2, atoi(words[5])));
@@ -185,8 +219,6 @@ int main(int count, char **words)
     }
     printf("%-51s %9s %9s %8s\n", "a call, in ns", "before", "after", "ratio");
     for (int kind = 0; kind < 4; kind++) time_cost(kinds[kind]);
-    for (int input = 0; input < 4; input++)
-        for (uint8_t duration = 0; duration < 2; duration++)
-            for (uint8_t bandwidth = 0; bandwidth < 5; bandwidth++) time_encode(duration, bandwidth, inputs[input]);
+    time_rows();
     return 0;
 }

@@ -68,8 +68,8 @@ fn not_above(x: f32) -> u32
 
 // The index of a reflection coefficient, for every f32. The search goes by its size, and its sign, which cannot
 // be foreseen either, decides only what becomes of the count. NaN is not at most 1, and counts as 0. Numbers
-// stay as wide as an f32 up to the last line: so the compiler takes six of a filter's eight side by side and
-// lays out the analysis around them as before (docs/DECISIONS.md, "Speed").
+// stay as wide as an f32 up to the last line, so that the compiler can take several of a filter's eight side by
+// side (docs/DECISIONS.md, "Speed").
 pub fn index_of(x: f32) -> u8
     ensures { λ r. ⌜ r ≡ indexOf x ⌝ }
 {
