@@ -1,12 +1,13 @@
--- What the search for a number over a limit finds stands in the list; and where it finds nothing, each number is at most the limit.
+-- What the search for a number over a limit finds stands in the list; and it finds nothing exactly if each number is at most the limit.
 use mathlib.Core.Path.{_≡_, refl, subst}
 use mathlib.Core.Bool.{Bool, true, false, cond}
 use mathlib.Core.List.{List, [], _∷_}
 use Prim.Native.Nat.{ℕ, zero, suc, _+_, _-_, _≤_, _<_}
 use native.Mathlib.Omega.{arith}
 use lib.Dec.{ltb}
-use borrow.Author.Tests.{ltb-false}
+use borrow.Author.Tests.{le-ltb, ltb-false}
 use lib.ListN.{length, getD}
+use Rattle.law_lists.specs.Every.{EachAtMost}
 use Rattle.check_limits.specs.LowestOver.{lowestOver}
 use Rattle.check_limits.specs.declared.Over.the-variants.{Nowhere, At}
 
@@ -57,7 +58,13 @@ pub none-further : (limit place x : ℕ) (xs : List ℕ) → lowestOver limit pl
 none-further limit place x xs e = first-fine limit place x xs e .1
 
 -- each is at most the limit
-pub none-over : (limit place : ℕ) (xs : List ℕ) → lowestOver limit place xs ≡ Nowhere → (i : ℕ) → getD xs i 0 ≤ limit
+pub none-over : (limit place : ℕ) (xs : List ℕ) → lowestOver limit place xs ≡ Nowhere → EachAtMost limit xs
 none-over limit place [] e i = omega arith
 none-over limit place (x ∷ xs) e zero = first-fine limit place x xs e .0
 none-over limit place (x ∷ xs) e (suc i) = none-over limit (suc place) xs (none-further limit place x xs e) i
+
+-- and if each is, none is found
+pub none-found : (limit place : ℕ) (xs : List ℕ) → EachAtMost limit xs → lowestOver limit place xs ≡ Nowhere
+unfolding lowestOver
+none-found limit place [] fine = refl
+none-found limit place (x ∷ xs) fine = rw (le-ltb limit x (fine 0)) (none-found limit (suc place) xs (λ i. fine (suc i)))

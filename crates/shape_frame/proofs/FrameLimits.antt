@@ -2,13 +2,14 @@
 use mathlib.Core.Path.{_≡_, refl}
 use mathlib.Core.Bool.{Bool, true, false, cond}
 use mathlib.Core.List.{List, [], _∷_, _++_, map}
-use Prim.Native.Nat.{ℕ, suc, _≤_}
+use Prim.Native.Nat.{ℕ, zero, suc, _≤_}
 use native.Mathlib.Omega.{arith}
-use borrow.Author.Tests.{le-ltb}
 use lib.Ieee.{Float}
 use lib.ListN.{length-append}
+use Rattle.law_lists.specs.Every.{EachAtMost}
+use Rattle.law_lists.proofs.Every.{both-at-most}
 use Rattle.check_limits.specs.LowestOver.{lowestOver}
-use Rattle.check_limits.specs.declared.Over.the-variants.{Nowhere}
+use Rattle.check_limits.proofs.Stands.{none-over, none-found}
 use Rattle.check_side.specs.Sides.{SoundSide}
 use Rattle.index_choice.specs.Indices.{indexOf}
 use Rattle.index_choice.proofs.Indices.{index-at-most}
@@ -53,34 +54,27 @@ side-reported row lines flag weighting =
 
 -- ---- numbers within a limit
 
-abbrev EachAtMost : ℕ → List ℕ → Type 0
-EachAtMost limit [] = Unit {0}
-EachAtMost limit (x ∷ xs) = (x ≤ limit) × EachAtMost limit xs
-
-none-found : (limit place : ℕ) (xs : List ℕ) → EachAtMost limit xs → lowestOver limit place xs ≡ Nowhere
-unfolding lowestOver
-none-found limit place [] h = refl
-none-found limit place (x ∷ xs) h = rw (le-ltb limit x (h .0)) (none-found limit (suc place) xs (h .1))
-
-append-at-most : (limit : ℕ) (xs ys : List ℕ) → EachAtMost limit xs → EachAtMost limit ys → EachAtMost limit (xs ++ ys)
-append-at-most limit [] ys p q = q
-append-at-most limit (x ∷ xs) ys p q = (p .0, append-at-most limit xs ys (p .1) q)
-
 indices-at-most : (r : List Float) → EachAtMost 16 (map indexOf r)
-indices-at-most [] = tt
-indices-at-most (x ∷ xs) = (index-at-most x, indices-at-most xs)
+indices-at-most [] place = omega arith
+indices-at-most (x ∷ xs) zero = index-at-most x
+indices-at-most (x ∷ xs) (suc place) = indices-at-most xs place
 
 filter-indices : (b : Band) (lines : List Float) (flag : Bool) (weighting : ℕ) → EachAtMost 16 (filterOf b lines flag weighting .indices)
 unfolding filterOf quantizedOf
 filter-indices b lines flag weighting = indices-at-most (reflectionsOf b lines flag weighting)
 
 second-indices : (row : Row) (lines : List Float) (flag : Bool) (weighting : ℕ) → EachAtMost 16 (secondOf row lines flag weighting .indices)
-unfolding secondOf absent
+unfolding secondOf absent lowestOver
 second-indices row lines flag weighting = either (hasSecond row)
   where
     either : (two : Bool) → EachAtMost 16 (cond two (filterOf (row .second) lines flag weighting) absent .indices)
     either true = filter-indices (row .second) lines flag weighting
-    either false = (omega arith, (omega arith, (omega arith, (omega arith, (omega arith, (omega arith, (omega arith, (omega arith, tt))))))))
+    either false = none-over 16 0 (absent .indices) refl
+
+both-orders : (a b : ℕ) → a ≤ 8 → b ≤ 8 → EachAtMost 8 (a ∷ b ∷ [])
+both-orders a b p q zero = p
+both-orders a b p q (suc zero) = q
+both-orders a b p q (suc (suc place)) = omega arith
 
 -- orders at most 8, indices at most 16, lists of their lengths, one or two filters
 pub side-sound : (row : Row) (lines : List Float) (flag : Bool) (weighting : ℕ)
@@ -95,6 +89,6 @@ side-sound row lines flag weighting =
       two-orders = refl;
       sixteen-indices = omega (arith, length-append (a .indices) (b .indices), p .eight-indices, q .eight-indices);
       count-at-most-2 = one-or-two (hasSecond row) .1;
-      orders-at-most-8 = none-found 8 0 (a .order ∷ b .order ∷ []) (p .order-at-most-8, (q .order-at-most-8, tt));
-      indices-at-most-16 = none-found 16 0 (a .indices ++ b .indices) (append-at-most 16 (a .indices) (b .indices) (filter-indices (row .first) lines flag weighting) (second-indices row lines flag weighting));
+      orders-at-most-8 = none-found 8 0 (a .order ∷ b .order ∷ []) (both-orders (a .order) (b .order) (p .order-at-most-8) (q .order-at-most-8));
+      indices-at-most-16 = none-found 16 0 (a .indices ++ b .indices) (both-at-most 16 (a .indices) (b .indices) (filter-indices (row .first) lines flag weighting) (second-indices row lines flag weighting));
     }

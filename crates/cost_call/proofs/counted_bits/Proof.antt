@@ -3,13 +3,12 @@ use mathlib.Core.Path.{_≡_, refl, sym, _∙_, ap}
 use mathlib.Core.List.{List}
 use Prim.Native.Nat.{ℕ, zero, suc, _+_, _*_, _-_, _≤_}
 use native.Mathlib.Numerals.{add-one}
-use native.Mathlib.Decide.{decLt}
 use native.Mathlib.Omega.{arith}
 use borrow.Author.Needs.{needs}
 use borrow.Author.Tests.{eqb-true}
 use lib.ListN.{length, getD, take, drop, length-take, length-drop, List·getD-eq-default}
-use lib.Seq.{getD-take, getD-drop}
 use Rattle.law_lists.specs.Counted.{counted, total}
+use Rattle.law_lists.proofs.Every.{part-at-most}
 use Rattle.check_limits.proofs.Stands.{none-over}
 use Rattle.cost_filter.specs.FilterCost.{filterBits}
 use Rattle.cost_call.specs.Cost.{countedBits}
@@ -57,15 +56,6 @@ part-filter-bits-end c =
     let start = c .before .before .before .before .before .before .before .before .before in
     omega (arith, start .pre .count-at-most-2, start .pre .sixteen-indices)
 
--- numbers within a limit, in a part of a list
-part-fine : (limit n m : ℕ) (xs : List ℕ) → ((i : ℕ) → getD xs i 0 ≤ limit) → (i : ℕ) → getD (take n (drop m xs)) i 0 ≤ limit
-part-fine limit n m xs fine i = elim (decLt i n) [
-  | yes below ↦ rw (getD-take n (drop m xs) i 0 below, getD-drop m xs i 0) (fine (m + i))
-  | no beyond ↦
-      let past : length (take n (drop m xs)) ≤ i = omega (arith, length-take n (drop m xs)) in
-      rw (List·getD-eq-default (take n (drop m xs)) 0 past) (omega arith)
-]
-
 -- the bits of the filter that stands at a place
 one : (c : tie.After-filter-bits Inv-loop μ-loop) →
     let filter = c .before .before .before .before .before .loop .filter in
@@ -91,7 +81,7 @@ filter-bits-requires c κs =
       its-costs = c .before .before .before .before .before .coef-costs .ensures;
       eight-indices =
           omega (arith, length-take (8 * filter + 8 - 8 * filter) (drop (8 * filter) indices), length-drop (8 * filter) indices, start .pre .sixteen-indices, start .pre .count-at-most-2);
-      at-most-16 = part-fine 16 (8 * filter + 8 - 8 * filter) (8 * filter) indices (none-over 16 0 indices (start .pre .indices-at-most-16));
+      at-most-16 = part-at-most 16 (8 * filter + 8 - 8 * filter) (8 * filter) indices (none-over 16 0 indices (start .pre .indices-at-most-16));
     }
 
 add-bits : tie.Need-add-bits Inv-loop μ-loop
