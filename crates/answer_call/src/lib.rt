@@ -3,11 +3,13 @@
 use call_restart::LineAnswer;
 use check_line::LineRefusal;
 use check_refusals::Refusal;
+use cost_call::CostAnswer;
 ghost use mathlib.Core.Path.{_≡_};
 ghost use Prim.Native.Nat.{_≤_};
 ghost use Rattle.check_verdicts.specs.Verdicts.{placed, accepted, refused, placeOf, ofFault, noBits, itsBits};
 ghost use Rattle.check_refusals.specs.Refusals.{says};
 ghost use Rattle.check_line.specs.LineChecks.{lineSays};
+ghost use Rattle.cost_call.specs.Cost.{costSays};
 ghost use Rattle.call_restart.specs.Restart.{lineAnswerSays};
 ghost use Rattle.answer_call.specs.Answers.{answerFor};
 
@@ -76,5 +78,17 @@ pub fn told_at_line(answer: LineAnswer) -> Answer
     match answer {
         LineAnswer::Decoded => accepted(0),
         LineAnswer::Refused(why) => refused_at_line(why),
+    }
+}
+
+// What `cost_2048ths` answers. It requires a place that fits, as `refused` does: the call has checked it.
+// `tns_cost` has the same two cases in its own body: through this function the compiler makes its call longer.
+pub fn told_cost(answer: CostAnswer) -> Answer
+    requires { ⌜ ofFault placeOf (costSays answer) ≤ 15 ⌝ }
+    ensures { λ r. ⌜ r ≡ answerFor itsBits (costSays answer) ⌝ }
+{
+    match answer {
+        CostAnswer::Bits(bits) => accepted(bits),
+        CostAnswer::Refused(why) => refused(why),
     }
 }

@@ -2,5 +2,6 @@
 pub mod EncodeVerdict
 pub mod Outside
 pub mod Reported
+pub mod Rounded
 pub mod NearFound
 pub mod Determined

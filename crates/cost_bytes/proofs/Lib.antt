@@ -1,3 +1,4 @@
 -- The laws that belong to no one function.
 pub mod SideBytes
+pub mod Rounded
 pub mod Determined

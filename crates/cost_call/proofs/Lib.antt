@@ -1,3 +1,4 @@
 -- The laws that belong to no one function.
 pub mod Costs
+pub mod AtPlace
 pub mod Determined

@@ -3,7 +3,8 @@
 use check_refusals::Refusal;
 use check_side::SideAnswer;
 use check_side::check_side;
-use cost_filter::filter_bits;
+use cost_filter::filter_cost;
+use cost_filter::whole_bits;
 use cost_tables::coef_costs;
 ghost use mathlib.Core.Path.{_≡_};
 ghost use Rattle.check_side.specs.Sides.{SoundSide};
@@ -16,8 +17,8 @@ pub enum CostAnswer {
 }
 
 // The bits of the counted filters of side data that the cost call has checked, or that the analysis of a
-// frame has made. If both filters are off, each costs its one bit and nothing is looked up. If not, the
-// costs are bound once and lent for each filter.
+// frame has made: each filter's cost is rounded up on its own. If both filters are off, each costs its one
+// bit and nothing is looked up. If not, the costs are bound once and lent for each filter.
 pub fn counted_bits(weighting: u8, filters: u8, orders: &[u8], indices: &[u8]) -> u16
     requires { ⌜ SoundSide filters (now orders) (now indices) ⌝ }
     ensures { λ r. ⌜ r ≡ countedBits weighting filters (now (orders .entry)) (now (indices .entry)) ⌝ }
@@ -30,7 +31,8 @@ pub fn counted_bits(weighting: u8, filters: u8, orders: &[u8], indices: &[u8]) -
     for filter in 0..filters as usize {
         let from = 8 * filter;
         let end = from + 8;
-        bits = bits + filter_bits(&costs, weighting, orders[filter], &indices[from..end]);
+        let cost = filter_cost(&costs, weighting, orders[filter], &indices[from..end]);
+        bits = bits + whole_bits(cost);
     }
     bits
 }

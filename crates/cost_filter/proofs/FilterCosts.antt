@@ -1,5 +1,5 @@
--- Laws of a filter's cost that callers use in place of its text: a filter that is off takes one bit, a filter within the limits at most 84, and every
--- sum on the way is below 2 ^ 24. The bounds rest on laws of the tables.
+-- Laws of a filter's cost that callers use in place of its text: a filter that is off costs nothing and takes one bit, a filter within the limits costs
+-- at most 83 whole bits and takes at most 84, and every sum on the way is below 2 ^ 24. The bounds rest on laws of the tables.
 use mathlib.Core.Path.{_≡_, refl}
 use mathlib.Core.List.{List}
 use Prim.Native.Nat.{ℕ, _+_, _*_, _^_, _≤_, _<_}
@@ -7,7 +7,7 @@ use native.Mathlib.Omega.{arith}
 use lib.ListN.{take, length-take}
 use Rattle.cost_tables.specs.Tables.{ofOrder, cellsFrom}
 use Rattle.cost_tables.proofs.TableCosts.{order-cost-affordable, order-cost-at-most, index-costs-at-most}
-use Rattle.cost_filter.specs.FilterCost.{orderCost, indexCosts, filterCost, filterBits}
+use Rattle.cost_filter.specs.FilterCost.{orderCost, indexCosts, filterCost, wholeBits, filterBits}
 
 -- a filter of order 0 is off: it costs nothing but the one bit that says so
 pub off-free : (weighting : ℕ) (indices : List ℕ) → filterCost weighting 0 indices ≡ 0
@@ -15,7 +15,7 @@ unfolding filterCost orderCost ofOrder indexCosts cellsFrom
 off-free weighting indices = refl
 
 pub off-bits : (weighting : ℕ) (indices : List ℕ) → filterBits weighting 0 indices ≡ 1
-unfolding filterBits
+unfolding filterBits wholeBits
 off-bits weighting indices = rw (off-free weighting indices)
 
 pub filter-cost-at-most : (weighting order : ℕ) (indices : List ℕ) → order ≤ 8 → filterCost weighting order indices ≤ 83 * 2048
@@ -30,9 +30,13 @@ filter-cost-affordable weighting order indices =
     omega (arith, order-cost-affordable weighting order, index-costs-at-most 0 (take order indices), length-take order indices)
 
 -- at most 84 bits a filter
+pub whole-bits-at-most : (cost : ℕ) → cost ≤ 83 * 2048 → wholeBits cost ≤ 84
+unfolding wholeBits
+whole-bits-at-most cost h = omega arith
+
 pub filter-bits-at-most : (weighting order : ℕ) (indices : List ℕ) → order ≤ 8 → filterBits weighting order indices ≤ 84
 unfolding filterBits
-filter-bits-at-most weighting order indices h = omega (arith, filter-cost-at-most weighting order indices h)
+filter-bits-at-most weighting order indices h = whole-bits-at-most (filterCost weighting order indices) (filter-cost-at-most weighting order indices h)
 
 -- ---- the sums that E works in f32
 

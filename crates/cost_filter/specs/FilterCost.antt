@@ -1,7 +1,7 @@
--- docs/RULES.md, "Cost": what one filter costs, in 2048ths of a bit and in bits.
+-- docs/RULES.md, "Cost" and "Cost before rounding (C-15)": what one filter costs in 2048ths of a bit, and the bits of that.
 use mathlib.Core.Path.{_≡_}
 use mathlib.Core.List.{List}
-use Prim.Native.Nat.{ℕ, _+_, _/_, _≤_}
+use Prim.Native.Nat.{ℕ, _+_, _*_, _/_, _≤_}
 use lib.ListN.{take}
 use Rattle.cost_tables.specs.Tables.{ofOrder, orderBits, coefBits, cellsFrom}
 
@@ -16,11 +16,14 @@ indexCosts indices = cellsFrom coefBits 0 indices
 unfoldable pub filterCost : ℕ → ℕ → List ℕ → ℕ
 filterCost weighting order indices = orderCost weighting order + indexCosts (take order indices)
 
--- one bit plus that cost, rounded up
-unfoldable pub filterBits : ℕ → ℕ → List ℕ → ℕ
-filterBits weighting order indices = 1 + (filterCost weighting order indices + 2047) / 2048
+-- C-15: the bits of such a cost: one bit, and the cost rounded up to whole bits
+unfoldable pub wholeBits : ℕ → ℕ
+wholeBits cost = 1 + (cost + 2047) / 2048
 
--- What is promised of one filter's bits: these are the definition's, and at most 84 up to order 8.
+unfoldable pub filterBits : ℕ → ℕ → List ℕ → ℕ
+filterBits weighting order indices = wholeBits (filterCost weighting order indices)
+
+-- What is promised of one filter's cost: it is the definition's, and at most 83 whole bits up to order 8.
 pub record FilterPriced (weighting order : ℕ) (indices : List ℕ) (result : ℕ) : Type 0 where
-  pub bits : result ≡ filterBits weighting order indices
-  pub few : order ≤ 8 → result ≤ 84
+  pub cost : result ≡ filterCost weighting order indices
+  pub few : order ≤ 8 → result ≤ 83 * 2048

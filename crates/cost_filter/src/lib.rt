@@ -1,12 +1,13 @@
-// What one filter costs: E's `calc_bit_budget` of one filter, in whole numbers. It rests on the contracts
-// of the tables alone. Each function is lent the costs of `cost_tables::coef_costs`, and requires no other
-// numbers there, and eight indices of at most 16: the caller has bound those costs and checked the indices.
-// Any weighting and any order will do.
+// What one filter costs: E's `calc_bit_budget` of one filter, in whole numbers: first in 2048ths of a bit,
+// then in bits. It rests on the contracts of the tables alone. A function that is lent the costs of
+// `cost_tables::coef_costs` requires no other numbers there, and eight indices of at most 16: the caller has
+// bound those costs and checked the indices. Any weighting and any order will do.
 use cost_tables::coef_bits;
 use cost_tables::order_bits;
 ghost use mathlib.Core.Path.{_≡_};
+ghost use Prim.Native.Nat.{_*_, _≤_};
 ghost use lib.ListN.{take};
-ghost use Rattle.cost_filter.specs.FilterCost.{indexCosts, filterCost, FilterPriced};
+ghost use Rattle.cost_filter.specs.FilterCost.{indexCosts, wholeBits, FilterPriced};
 ghost use Rattle.cost_filter.specs.Priceable.{Priceable};
 
 // What the indices below an order cost together, each at its place. Each cost is read before the order is
@@ -25,10 +26,11 @@ fn index_costs(costs: &[u16; 136], order: u8, indices: &[u8]) -> u32
     sum
 }
 
-// The cost of one filter in 2048ths of a bit: its order's and that of its indices below the order.
-fn filter_cost(costs: &[u16; 136], weighting: u8, order: u8, indices: &[u8]) -> u32
+// The cost of one filter in 2048ths of a bit, without the bit that every filter has: its order's and that of
+// its indices below the order. Nothing is rounded here; bits are `whole_bits` of it (C-15).
+pub fn filter_cost(costs: &[u16; 136], weighting: u8, order: u8, indices: &[u8]) -> u32
     requires { ⌜ Priceable (now costs) (now indices) ⌝ }
-    ensures { λ r. ⌜ r ≡ filterCost weighting order (now (indices .entry)) ⌝ }
+    ensures { λ r. ⌜ FilterPriced weighting order (now (indices .entry)) r ⌝ }
 {
     if order == 0 {
         return 0;
@@ -36,11 +38,12 @@ fn filter_cost(costs: &[u16; 136], weighting: u8, order: u8, indices: &[u8]) -> 
     order_bits(weighting, order) as u32 + index_costs(costs, order, indices)
 }
 
-// The bits of one filter, rounded up by itself, with the one bit that says whether it is on.
-pub fn filter_bits(costs: &[u16; 136], weighting: u8, order: u8, indices: &[u8]) -> u16
-    requires { ⌜ Priceable (now costs) (now indices) ⌝ }
-    ensures { λ r. ⌜ FilterPriced weighting order (now (indices .entry)) r ⌝ }
+// The bits of one filter's cost: the bit that says whether the filter is on, and the cost rounded up to
+// whole bits. It requires a cost that a filter can have: whoever asks has it from `filter_cost`, of an
+// order up to 8.
+pub fn whole_bits(cost: u32) -> u16
+    requires { ⌜ cost ≤ 83 * 2048 ⌝ }
+    ensures { λ r. ⌜ r ≡ wholeBits cost ⌝ }
 {
-    let cost = filter_cost(costs, weighting, order, indices);
     1 + ((cost + 2047) / 2048) as u16
 }

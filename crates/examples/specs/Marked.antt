@@ -15,7 +15,7 @@ use Rattle.check_side.specs.Sides.{sideChecks}
 use Rattle.check_limits.specs.LowestOver.{lowestOver}
 use Rattle.law_lists.specs.Counted.{counted, total}
 use Rattle.cost_call.specs.Cost.{costOf, countedBits}
-use Rattle.cost_filter.specs.FilterCost.{filterBits, filterCost, orderCost, indexCosts}
+use Rattle.cost_filter.specs.FilterCost.{filterBits, wholeBits, filterCost, orderCost, indexCosts}
 use Rattle.row_durations.specs.Durations.{weightingOf, numbersOf}
 use Rattle.row_durations.specs.declared.Duration.{Duration}
 use Rattle.row_durations.specs.declared.Duration.the-variants.{Ten, SevenPointFive}
@@ -57,5 +57,5 @@ right (weighs duration nbits weighting) = eqb (weightingOf (numbersOf duration) 
 right (quantizes x index) = eqb (indexOf x) index
 
 pub marked-cases-hold : every right marked ≡ true
-unfolding marked right padded costOf sideChecks lowestOver countedBits counted total filterBits filterCost orderCost ofOrder indexCosts cellsFrom weightingOf indexOf notAbove le neg ofBits
+unfolding marked right padded costOf sideChecks lowestOver countedBits counted total filterBits wholeBits filterCost orderCost ofOrder indexCosts cellsFrom weightingOf indexOf notAbove le neg ofBits
 marked-cases-hold = refl

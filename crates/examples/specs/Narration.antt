@@ -13,7 +13,7 @@ use Rattle.check_verdicts.specs.Verdicts.{numbered, accepted, refused}
 use Rattle.check_limits.specs.LowestOver.{lowestOver}
 use Rattle.check_side.specs.Sides.{sideChecks}
 use Rattle.cost_tables.specs.Tables.{ofOrder, cellsFrom}
-use Rattle.cost_filter.specs.FilterCost.{orderCost, indexCosts, filterCost, filterBits}
+use Rattle.cost_filter.specs.FilterCost.{orderCost, indexCosts, filterCost, wholeBits, filterBits}
 use Rattle.cost_call.specs.Cost.{countedBits, costOf}
 use Rattle.block_numbers.specs.Sums.{weightedFrom, sumsOf}
 use Rattle.block_record.specs.RecordBytes.{soundRecord}
@@ -38,10 +38,10 @@ its-ends = refl
 -- M2; the two that differ; order 9; one bit too many; cut short
 pub sound-or-not : map soundRecord (m2 ∷ oneFilter 1 1 9 10 ∷ oneFilter 1 1 10 11 ∷ oneFilter 0 9 9 13 ∷ oneFilter 0 1 9 14 ∷ take 23 m2 ∷ [])
     ≡ true ∷ true ∷ true ∷ false ∷ false ∷ false ∷ []
-unfolding soundRecord costOf countedBits counted total filterBits filterCost orderCost indexCosts ofOrder cellsFrom lowestOver sideChecks
+unfolding soundRecord costOf countedBits counted total filterBits wholeBits filterCost orderCost indexCosts ofOrder cellsFrom lowestOver sideChecks
 sound-or-not = refl
 
 -- read as block 0 it gives the record, and as block 1 it is refused with 11
 pub read-as : blockVerdict 0 block ∷ blockVerdict 1 block ∷ [] ≡ accepted m2 ∷ refused (numbered 11) ∷ []
-unfolding blockVerdict sumsRight headerRight soundRecords blockBytes bodyBytes sumsOf weightedFrom portions portionsIn soundRecord costOf countedBits counted total filterBits filterCost orderCost indexCosts ofOrder cellsFrom lowestOver sideChecks
+unfolding blockVerdict sumsRight headerRight soundRecords blockBytes bodyBytes sumsOf weightedFrom portions portionsIn soundRecord costOf countedBits counted total filterBits wholeBits filterCost orderCost indexCosts ofOrder cellsFrom lowestOver sideChecks
 read-as = refl

@@ -6,7 +6,7 @@ use Prim.Native.Nat.{ℕ, zero, suc, _+_, _≤_, _<_}
 use native.Mathlib.Decide.{decLt}
 use native.Mathlib.Nat.{le-of-suc-le-suc, not-suc-le-zero}
 use native.Mathlib.Omega.{arith}
-use lib.ListN.{length, getD, take, drop, length-take, List·getD-eq-default}
+use lib.ListN.{length, getD, take, drop, replicate, length-take, List·getD-eq-default}
 use lib.Seq.{getD-take, getD-drop}
 use Rattle.law_lists.specs.Every.{every, EachAtMost}
 
@@ -45,3 +45,8 @@ module _ (limit : ℕ) where
   both-at-most [] ys p q place = q place
   both-at-most (x ∷ xs) ys p q zero = p 0
   both-at-most (x ∷ xs) ys p q (suc place) = both-at-most xs ys (λ i. p (suc i)) q place
+
+  pub zeros-at-most : (n : ℕ) → EachAtMost limit (replicate n 0)
+  zeros-at-most zero place = omega arith
+  zeros-at-most (suc n) zero = omega arith
+  zeros-at-most (suc n) (suc place) = zeros-at-most n place

@@ -21,6 +21,8 @@ use Rattle.tns.proofs.rescue.tns_block_rescue.Kinds as tns-block-rescue
 use Rattle.tns.proofs.rescue.tns_block_rescue.Reads as tns-block-rescue-reads
 use Rattle.tns.proofs.tns_cost.Kinds as tns-cost-kinds
 use Rattle.tns.proofs.tns_cost.Reads as tns-cost-reads
+use Rattle.tns.proofs.tns_cost_2048ths.Kinds as tns-cost-2048ths-kinds
+use Rattle.tns.proofs.tns_cost_2048ths.Reads as tns-cost-2048ths-reads
 
 tns-decode : DeterminedWith 3 tns-decode-kinds.ps tns-decode-kinds.r tns-decode-reads.Post (List Float) (λ κs s. s .1 .1 .1 .1 .1 .0 .now)
 tns-decode κs a x y s t p q = (itself (p .0) (q .0), itself (p .1) (q .1))
@@ -38,6 +40,11 @@ tns-decode-restart κs a x y s t p q = (itself (p .answer) (q .answer), itself (
 
 tns-cost : Determined 2 tns-cost-kinds.ps tns-cost-kinds.r tns-cost-reads.Post
 tns-cost κs a x y s t p q = itself (p .0) (q .0)
+
+-- the 2048ths of each filter
+tns-cost-2048ths :
+    DeterminedWith 3 tns-cost-2048ths-kinds.ps tns-cost-2048ths-kinds.r tns-cost-2048ths-reads.Post (List ℕ) (λ κs s. s .1 .1 .1 .1 .0 .now)
+tns-cost-2048ths κs a x y s t p q = (itself (p .0) (q .0), itself (p .1 .1 .parts) (q .1 .1 .parts))
 
 -- the lines, the side data and the coefficients
 tns-encode-lines : DeterminedWith 3 tns-encode-kinds.ps tns-encode-kinds.r tns-encode-reads.Post (List Float) (λ κs s. s .1 .1 .1 .1 .0 .now)

@@ -8,6 +8,7 @@ use answer_call::Answer;
 use answer_call::accepted;
 use answer_call::refused;
 use answer_call::told_at_line;
+use answer_call::told_cost;
 pub use blocks::tns_block_read;
 pub use blocks::tns_block_write;
 use call_decode::DecodeAnswer;
@@ -18,6 +19,7 @@ use call_restart::restart;
 use call_restart::save;
 use cost_call::CostAnswer;
 use cost_call::cost;
+use cost_parts::cost_2048ths;
 pub use rescue::tns_block_rescue;
 use side_data::bytes_of;
 use side_data::coefficients_of;
@@ -26,6 +28,7 @@ ghost use Prim.Native.Nat.{_≤_};
 ghost use lib.ListN.{length};
 ghost use Rattle.check_verdicts.specs.Verdicts.{noBits, itsBits};
 ghost use Rattle.cost_call.specs.Cost.{costOf};
+ghost use Rattle.cost_parts.specs.Parts.{partsOf, TellsParts};
 ghost use Rattle.check_line.specs.LineChecks.{lineCallChecks};
 ghost use Rattle.call_decode.specs.Decoder.{decodeChecks, spectrumDecoded};
 ghost use Rattle.side_split.specs.SplitRun.{statesBefore, linesFrom};
@@ -156,4 +159,22 @@ pub extern "C" fn tns_cost(weighting: u8, filters: u8, orders: &[u8], indices: &
         CostAnswer::Bits(bits) => accepted(bits),
         CostAnswer::Refused(why) => refused(why),
     }
+}
+
+// The same cost, as `cost_parts::cost_2048ths`: the bits, and beside them what each filter costs in 2048ths
+// of a bit, before it is rounded. A refused call leaves both numbers as they were.
+#[no_mangle]
+pub extern "C" fn tns_cost_2048ths(
+    weighting: u8,
+    filters: u8,
+    orders: &[u8],
+    indices: &[u8],
+    parts: &mut [u32; 2],
+) -> Answer
+    ensures answer { λ r. ⌜ r ≡ answerFor itsBits (costOf weighting filters (now (orders .entry)) (now (indices .entry))) ⌝ }
+    ensures few { λ r. ⌜ r .bits ≤ 168 ⌝ }
+    ensures parts { λ _. ⌜ TellsParts filters (costOf weighting filters (now (orders .entry)) (now (indices .entry))) (partsOf weighting filters (now (orders .entry)) (now (indices .entry))) (now (parts .entry)) (now (parts .exit)) ⌝ }
+{
+    let answer = cost_2048ths(weighting, filters, orders, indices, parts);
+    told_cost(answer)
 }

@@ -6,13 +6,13 @@ use native.Mathlib.Numerals.{add-one}
 use native.Mathlib.Omega.{arith}
 use borrow.Author.Needs.{needs}
 use borrow.Author.Tests.{eqb-true}
-use lib.ListN.{length, getD, take, drop, length-take, length-drop, List·getD-eq-default}
+use lib.ListN.{length, getD, take, drop, List·getD-eq-default}
 use Rattle.law_lists.specs.Counted.{counted, total}
-use Rattle.law_lists.proofs.Every.{part-at-most}
-use Rattle.check_limits.proofs.Stands.{none-over}
-use Rattle.cost_filter.specs.FilterCost.{filterBits}
+use Rattle.cost_filter.specs.FilterCost.{filterCost, wholeBits, filterBits}
+use Rattle.cost_filter.proofs.FilterCosts.{whole-bits-at-most}
 use Rattle.cost_call.specs.Cost.{countedBits}
 use Rattle.cost_call.proofs.Costs.{one-more, all-off}
+use Rattle.cost_call.proofs.AtPlace.{priceable-from, cost-at, few-at}
 use Rattle.cost_call.proofs.counted_bits.Statement.{statement}
 use Rattle.cost_call.proofs.counted_bits.Tie as tie
 
@@ -43,61 +43,67 @@ loop-holds : tie.Need-loop-holds Inv-loop μ-loop
 unfolding countedBits counted total
 loop-holds c = (omega arith, refl, refl, omega arith)
 
-eight : (filter : ℕ) → 8 * filter + 8 - 8 * filter ≡ 8
-eight filter = omega arith
-
-shared-slice-read-filter-bits : tie.Need-shared-slice-read-filter-bits Inv-loop μ-loop
-shared-slice-read-filter-bits c =
+shared-slice-read-filter-cost : tie.Need-shared-slice-read-filter-cost Inv-loop μ-loop
+shared-slice-read-filter-cost c =
     let start = c .before .before .before .before .before .before .before .before .before in
     omega (arith, start .pre .count-at-most-2, start .pre .two-orders)
 
-part-filter-bits-end : tie.Need-part-filter-bits-end Inv-loop μ-loop
-part-filter-bits-end c =
+part-filter-cost-end : tie.Need-part-filter-cost-end Inv-loop μ-loop
+part-filter-cost-end c =
     let start = c .before .before .before .before .before .before .before .before .before in
     omega (arith, start .pre .count-at-most-2, start .pre .sixteen-indices)
 
--- the bits of the filter that stands at a place
-one : (c : tie.After-filter-bits Inv-loop μ-loop) →
+filter-cost-requires : tie.Need-filter-cost-requires Inv-loop μ-loop
+filter-cost-requires c κs =
+    let at = c .before .before .before .before in
+    let start = at .before .before .before .before .before .before in
+    let g = start .args in
+    priceable-from (g .filters) (g .orders .now) (g .indices .now) (start .pre) (8 * at .loop .filter) (omega (arith, start .pre .count-at-most-2)) _ (at .before .coef-costs .ensures)
+
+-- the cost of the filter at its place, and its bound
+one : (c : tie.After-filter-cost Inv-loop μ-loop) →
     let filter = c .before .before .before .before .before .loop .filter in
     let g = c .before .before .before .before .before .before .before .before .before .before .before .args in
-    c .filter-bits .result ≡ filterBits (g .weighting) (getD (g .orders .now) filter 0) (take 8 (drop (8 * filter) (g .indices .now)))
+    c .filter-cost .result ≡ filterCost (g .weighting) (getD (g .orders .now) filter 0) (take 8 (drop (8 * filter) (g .indices .now)))
 one c =
-    let filter = c .before .before .before .before .before .loop .filter in
-    let g = c .before .before .before .before .before .before .before .before .before .before .before .args in
-    c .filter-bits .ensures .bits ∙ ap (λ (n : ℕ). filterBits (g .weighting) (getD (g .orders .now) filter 0) (take n (drop (8 * filter) (g .indices .now)))) (eight filter)
+    let at = c .before .before .before .before .before in
+    let start = at .before .before .before .before .before .before in
+    let g = start .args in
+    cost-at (g .filters) (g .orders .now) (g .indices .now) (start .pre) (at .loop .filter) (g .weighting) _ (c .filter-cost .ensures)
 
--- at most 84 of them
-few : (c : tie.After-filter-bits Inv-loop μ-loop) → c .filter-bits .result ≤ 84
+few : (c : tie.After-filter-cost Inv-loop μ-loop) → c .filter-cost .result ≤ 83 * 2048
 few c =
-    let start = c .before .before .before .before .before .before .before .before .before .before .before in
-    c .filter-bits .ensures .few (none-over 8 0 (start .args .orders .now) (start .pre .orders-at-most-8) (c .before .before .before .before .before .loop .filter))
+    let at = c .before .before .before .before .before in
+    let start = at .before .before .before .before .before .before in
+    let g = start .args in
+    few-at (g .filters) (g .orders .now) (g .indices .now) (start .pre) (at .loop .filter) (g .weighting) _ (c .filter-cost .ensures)
 
-filter-bits-requires : tie.Need-filter-bits-requires Inv-loop μ-loop
-filter-bits-requires c κs =
-    let filter = c .before .before .before .before .loop .filter in
-    let start = c .before .before .before .before .before .before .before .before .before .before in
-    let indices = start .args .indices .now in
-    record {
-      its-costs = c .before .before .before .before .before .coef-costs .ensures;
-      eight-indices =
-          omega (arith, length-take (8 * filter + 8 - 8 * filter) (drop (8 * filter) indices), length-drop (8 * filter) indices, start .pre .sixteen-indices, start .pre .count-at-most-2);
-      at-most-16 = part-at-most 16 (8 * filter + 8 - 8 * filter) (8 * filter) indices (none-over 16 0 indices (start .pre .indices-at-most-16));
-    }
+-- its bits, rounded up on their own
+its-bits : (c : tie.After-whole-bits Inv-loop μ-loop) →
+    let filter = c .before .before .before .before .before .before .loop .filter in
+    let g = c .before .before .before .before .before .before .before .before .before .before .before .before .args in
+    c .whole-bits .result ≡ filterBits (g .weighting) (getD (g .orders .now) filter 0) (take 8 (drop (8 * filter) (g .indices .now)))
+unfolding filterBits
+its-bits c = c .whole-bits .ensures ∙ ap wholeBits (one (c .before))
+
+few-bits : (c : tie.After-whole-bits Inv-loop μ-loop) → c .whole-bits .result ≤ 84
+few-bits c = omega (arith, c .whole-bits .ensures, whole-bits-at-most (c .before .filter-cost .result) (few (c .before)))
 
 add-bits : tie.Need-add-bits Inv-loop μ-loop
 add-bits c =
-    let l = c .before .before .before .before .before .loop in
-    let start = c .before .before .before .before .before .before .before .before .before .before .before in
-    record { fits = omega (arith, start .pre .count-at-most-2, few c, l .inv .3) }
+    let at = c .before .before .before .before .before .before in
+    let start = at .before .before .before .before .before .before in
+    record { fits = omega (arith, start .pre .count-at-most-2, few-bits c, at .loop .inv .3) }
 
 loop-again : tie.Need-loop-again Inv-loop μ-loop
 loop-again c =
-    let l = c .before .before .before .before .before .loop in
-    let g = c .before .before .before .before .before .before .before .before .before .before .before .args in (
+    let at = c .before .before .before .before .before .before in
+    let l = at .loop in
+    let g = at .before .before .before .before .before .before .args in (
       omega arith,
       refl,
-      rw add-one (omega (arith, l .inv .2, one c, one-more (g .weighting) (l .filter) (g .orders .now) (g .indices .now))),
-      omega (arith, l .inv .3, few c),
+      rw add-one (omega (arith, l .inv .2, its-bits c, one-more (g .weighting) (l .filter) (g .orders .now) (g .indices .now))),
+      omega (arith, l .inv .3, few-bits c),
     )
 
 returns-2 : tie.Need-returns-2 Inv-loop μ-loop
@@ -119,11 +125,12 @@ counted-bits-spec =
     loop-holds
     (λ c. omega (arith, c .before .before .before .before .before .before .before .pre .count-at-most-2))
     (λ c. omega (arith, c .before .before .before .before .before .before .before .pre .count-at-most-2))
-    shared-slice-read-filter-bits
+    shared-slice-read-filter-cost
     (λ c. omega arith)
     (λ c. omega arith)
-    part-filter-bits-end
-    filter-bits-requires
+    part-filter-cost-end
+    filter-cost-requires
+    (λ c κs. few c)
     add-bits
     (λ c. omega arith)
     (λ c. omega arith)
