@@ -3,6 +3,7 @@
  *   turns BEFORE.so AFTER.so
  *   turns BEFORE.so AFTER.so BUILD KIND CALLS
  *   turns encoders BUILD.so..
+ *   turns parts BUILD.so
  *
  * Each line has a kind of call, the time of one call in ns by each build, and the second time in parts of
  * the first. A time is the best of many rounds. In a round each build makes the same calls, one build after
@@ -15,6 +16,8 @@
  *
  * The third form times the encoder of up to 16 builds, at 10 ms and bandwidths 0 and 4 alone, with a tenth of the
  * rounds. A line has the kind of call without spaces, and the ratio of each build's time to the first build's.
+ *
+ * The fourth form times tns_cost and tns_cost_2048ths of one build by turns, in the columns of the first form.
  *
  * Status 0, or 1 if the words are wrong, a build cannot be loaded, or the builds do not give the same: bits of the cost
  * calls, and answers, lines, side data and coefficients of the encoder calls. The second form compares nothing.
@@ -32,10 +35,12 @@
 enum { BUILDS = 16, SIDES = 256, FEW = 12, MANY = 1024, ROUNDS = 20000, LINES = 400 };
 
 typedef tns_answer cost_call(uint8_t, uint8_t, const uint8_t *, size_t, const uint8_t *, size_t);
+typedef tns_answer parts_call(uint8_t, uint8_t, const uint8_t *, size_t, const uint8_t *, size_t, uint32_t[2]);
 typedef tns_answer encode_call(uint8_t, uint8_t, uint64_t, bool, float *, size_t, uint8_t *, float *);
 
 static struct {
     cost_call *cost;
+    parts_call *parts; /* or null: a build before C-15 has none */
     encode_call *encode;
 } builds[BUILDS];
 
@@ -78,6 +83,7 @@ static void load(int build, const char *path, bool needs_cost)
     void *library = dlopen(path, RTLD_NOW | RTLD_LOCAL);
     if (!library) fail(dlerror());
     *(void **)&builds[build].cost = dlsym(library, "tns_cost");
+    *(void **)&builds[build].parts = dlsym(library, "tns_cost_2048ths");
     *(void **)&builds[build].encode = dlsym(library, "tns_encode");
     if (!builds[build].encode || (needs_cost && !builds[build].cost)) fail("a call is missing");
 }
@@ -134,6 +140,36 @@ static void time_cost(struct kind kind)
         }
     }
     if (sums[0] != sums[1]) fail("costs differ");
+    told(kind.what, best);
+}
+
+/* The same by so many calls that also tell the parts. */
+static uint32_t costs_in_parts(int build, int calls)
+{
+    uint32_t sum = 0, parts[2];
+    for (int c = 0; c < calls; c++) {
+        int s = c % SIDES;
+        sum = 31 * sum + builds[build].parts(sides[s].weighting, sides[s].filters, sides[s].orders, 2, sides[s].indices, 16, parts).bits;
+    }
+    return sum;
+}
+
+/* Both cost calls of a build by turns. */
+static void time_parts(int build, struct kind kind)
+{
+    double best[2] = {1e18, 1e18};
+    uint32_t sums[2] = {0, 0};
+    draw_sides(kind);
+    for (int round = 0; round < ROUNDS; round++) {
+        for (int turn = 0; turn < 2; turn++) {
+            int call = (round + turn) % 2;
+            double began = now();
+            sums[call] = call ? costs_in_parts(build, SIDES) : costs(build, SIDES);
+            double taken = (now() - began) / SIDES;
+            if (taken < best[call]) best[call] = taken;
+        }
+    }
+    if (sums[0] != sums[1]) fail("the two cost calls differ");
     told(kind.what, best);
 }
 
@@ -209,7 +245,15 @@ int main(int count, char **words)
         time_encoders(count - 2);
         return 0;
     }
-    if (count != 3 && count != 6) fail("usage: turns BEFORE.so AFTER.so [BUILD KIND CALLS] | turns encoders BUILD.so..");
+    if (count == 3 && !strcmp(words[1], "parts")) {
+        load(0, words[2], true);
+        if (!builds[0].parts) fail("a call is missing");
+        printf("%-51s %9s %9s %8s\n", "a call of the tree after, in ns", "cost", "2048ths", "ratio");
+        for (int kind = 0; kind < 4; kind++) time_parts(0, kinds[kind]);
+        return 0;
+    }
+    if (count != 3 && count != 6)
+        fail("usage: turns BEFORE.so AFTER.so [BUILD KIND CALLS] | turns encoders BUILD.so.. | turns parts BUILD.so");
     load(0, words[1], true);
     load(1, words[2], true);
     if (count == 6) {

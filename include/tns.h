@@ -1,4 +1,4 @@
-/* Temporal noise shaping (TNS) of the LC3 audio codec: the eight functions of libtns.a. The archive is
+/* Temporal noise shaping (TNS) of the LC3 audio codec: the nine functions of libtns.a. The archive is
  * for x86-64; `rt staticlib tns` proves and builds it.
  *
  * Every call returns an answer, whatever numbers and list lengths it gets. In an answer, refusal 0 means
@@ -25,8 +25,8 @@
  *     tns_answer answer = tns_decode(...);
  *     tns_float_leave(callers);
  *
- * Refusals, tns_cost and the three block calls use whole numbers alone and need no guard. The Rust crate
- * guards each of its calls by itself.
+ * Refusals, the two cost calls and the three block calls use whole numbers alone and need no guard. The Rust
+ * crate guards each of its calls by itself.
  */
 #ifndef TNS_H
 #define TNS_H
@@ -65,7 +65,7 @@ typedef struct {
     uint16_t refusal; /* 0: accepted */
     uint16_t place;   /* refusals 6 and 7: the lowest bad place; else 0 */
     uint16_t found;   /* refusals 6 and 7: the number at that place; else 0 */
-    uint16_t bits;    /* an accepted encode or cost: the bits, at most 168; else 0 */
+    uint16_t bits;    /* an accepted encode or cost call: the bits, at most 168; else 0 */
 } tns_answer;
 
 #if defined __x86_64__ && (defined __cplusplus || !defined __STRICT_ANSI__ || \
@@ -153,6 +153,19 @@ tns_answer tns_decode_restart(uint8_t duration, uint8_t bandwidth, uint8_t filte
 /* The bits that side data cost. Refusals 4 to 8. */
 tns_answer tns_cost(uint8_t weighting, uint8_t filters, const uint8_t *orders, size_t orders_len,
                     const uint8_t *indices, size_t indices_len);
+
+/* The same bits, and what each filter costs before it is rounded. Answers what tns_cost does. An accepted
+ * call also writes, for each counted filter, its cost in 2048ths of a bit, without the one bit that every
+ * counted filter takes. The part of a filter that is not counted is 0, and so is that of order 0. A part is
+ * at most 83 * 2048 = 169984. A refused call leaves both parts as they were. Refusals 4 to 8.
+ *
+ * The bits are 1 + (part + 2047) / 2048 for each counted filter, added up: each filter is rounded up on its
+ * own. To plan over many frames, add up the parts and the filter counts of all, and round once: together the
+ * frames cost filters + (parts + 2047) / 2048 bits. A uint64_t has room for the parts of 2^45 frames.
+ * examples/planner.c does this. docs/RULES.md, "Cost before rounding (C-15)". */
+tns_answer tns_cost_2048ths(uint8_t weighting, uint8_t filters, const uint8_t *orders,
+                            size_t orders_len, const uint8_t *indices, size_t indices_len,
+                            uint32_t parts[2]);
 
 /* A narration is a file with the side data of many frames, in blocks. docs/FORMAT.md describes it byte by
  * byte. A record holds one frame in 24 bytes, in memory as in the file:

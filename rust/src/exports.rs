@@ -1,4 +1,4 @@
-//! The library's eight functions as C sees them. Their contracts are proved. That the declarations here
+//! The library's nine functions as C sees them. Their contracts are proved. That the declarations here
 //! match them is not: compare them with `crates/tns/src/`, and the answers with `crates/answer_call/src/`
 //! and `crates/answer_block/src/`.
 
@@ -87,6 +87,15 @@ extern "C" {
         orders_len: usize,
         indices: *const u8,
         indices_len: usize,
+    ) -> Answer;
+    pub fn tns_cost_2048ths(
+        weighting: u8,
+        filters: u8,
+        orders: *const u8,
+        orders_len: usize,
+        indices: *const u8,
+        indices_len: usize,
+        parts: *mut [u32; 2],
     ) -> Answer;
     pub fn tns_block_write(
         number: u64,

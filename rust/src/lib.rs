@@ -19,6 +19,8 @@
 //! # Ok::<(), Refusal>(())
 //! ```
 //!
+//! To plan a rate over many frames, [`cost_exact`] gives what each filter costs before it is rounded.
+//!
 //! If the upper part of a frame changes, [`decode_restart`] decodes only that part, from the states that
 //! [`decode_save`] saved.
 //!
@@ -103,6 +105,17 @@ pub struct Encoded {
     pub side: SideData,
     /// The quantized reflection coefficients, one for each index.
     pub coefficients: [f32; 16],
+}
+
+/// The result of [`cost_exact`].
+#[derive(Clone, Copy, Debug, Default, PartialEq, Eq)]
+pub struct ExactCost {
+    /// The bits that the side data cost, as [`cost`] gives them, at most 168.
+    pub bits: u16,
+    /// What each filter costs before it is rounded, in 2048ths of a bit, without the one bit that every
+    /// counted filter takes; at most 83 * 2048. A filter that is not counted has 0, and so has one of
+    /// order 0.
+    pub parts: [u32; 2],
 }
 
 impl Duration {
@@ -195,4 +208,38 @@ pub fn decode(
 #[inline]
 pub fn cost(weighting: u8, filters: u8, orders: &[u8], indices: &[u8]) -> Result<u16, Refusal> {
     sys::cost(weighting, filters, orders, indices)
+}
+
+/// The bits that side data cost, and what each filter costs before it is rounded.
+///
+/// The bits are `1 + part.div_ceil(2048)` for each counted filter, added up: each filter is rounded up on
+/// its own. To plan over many frames, add up the parts, round once, and add one bit for each counted filter:
+///
+/// ```
+/// use gillsextant::{cost, cost_exact, Refusal};
+///
+/// // order 1 and index 9 in both filters, in each of a thousand frames
+/// let mut indices = [8; 16];
+/// (indices[0], indices[8]) = (9, 9);
+/// let (mut rounded, mut parts, mut filters) = (0, 0, 0);
+/// for _ in 0..1000 {
+///     let exact = cost_exact(0, 2, &[1, 1], &indices)?;
+///     assert_eq!((exact.bits, exact.parts), (26, [22871, 22871]));
+///     assert_eq!(cost(0, 2, &[1, 1], &indices), Ok(exact.bits));
+///     rounded += u64::from(exact.bits);
+///     parts += exact.parts.iter().copied().map(u64::from).sum::<u64>();
+///     filters += 2;
+/// }
+/// assert_eq!(rounded, 26_000);
+/// assert_eq!(filters + parts.div_ceil(2048), 24_335);
+/// # Ok::<(), Refusal>(())
+/// ```
+#[inline]
+pub fn cost_exact(
+    weighting: u8,
+    filters: u8,
+    orders: &[u8],
+    indices: &[u8],
+) -> Result<ExactCost, Refusal> {
+    sys::cost_exact(weighting, filters, orders, indices)
 }

@@ -1,14 +1,14 @@
-//! All calls of the library's eight functions. Each call is made in the default float environment
+//! All calls of the library's nine functions. Each call is made in the default float environment
 //! (`float`), so nobody has to know which of them compute with floats. All are inlined except the encoder's
 //! and those on blocks: passing nine arguments on would take longer than a decode without a filter, and the
 //! calls that save and restart have more arguments.
 
 use crate::exports::{
-    tns_block_read, tns_block_rescue, tns_block_write, tns_cost, tns_decode, tns_decode_restart,
-    tns_decode_save, tns_encode, Answer, BlockAnswer, RescueAnswer,
+    tns_block_read, tns_block_rescue, tns_block_write, tns_cost, tns_cost_2048ths, tns_decode,
+    tns_decode_restart, tns_decode_save, tns_encode, Answer, BlockAnswer, RescueAnswer,
 };
 use crate::narration::BlockRefusal;
-use crate::{float, Encoded, Refusal, SideData};
+use crate::{float, Encoded, ExactCost, Refusal, SideData};
 
 impl Answer {
     #[inline]
@@ -194,6 +194,34 @@ pub fn cost(weighting: u8, filters: u8, orders: &[u8], indices: &[u8]) -> Result
     });
     answer.accepted()?;
     Ok(answer.bits)
+}
+
+#[inline]
+pub fn cost_exact(
+    weighting: u8,
+    filters: u8,
+    orders: &[u8],
+    indices: &[u8],
+) -> Result<ExactCost, Refusal> {
+    let mut parts = [0; 2];
+    let to_parts = &mut parts;
+    // Sound as above.
+    let answer = float::in_default(move || unsafe {
+        tns_cost_2048ths(
+            weighting,
+            filters,
+            orders.as_ptr(),
+            orders.len(),
+            indices.as_ptr(),
+            indices.len(),
+            to_parts,
+        )
+    });
+    answer.accepted()?;
+    Ok(ExactCost {
+        bits: answer.bits,
+        parts,
+    })
 }
 
 pub fn block_write(

@@ -7,13 +7,23 @@ use common::{bits_of, same, List, Record, BANDWIDTHS, DURATIONS};
 use gillsextant::decoder::temporal_noise_shaping::apply_temporal_noise_shaping;
 use gillsextant::encoder::temporal_noise_shaping::TemporalNoiseShaping;
 use gillsextant::{
-    cost, decode, decode_restart, decode_save, encode, Bandwidth, Duration, Refusal, Saved,
+    cost, cost_exact, decode, decode_restart, decode_save, encode, Bandwidth, Duration, Refusal,
+    Saved,
 };
 
 impl Record {
     fn costs(&self) {
         let found = cost(self.choice, self.filters, &self.orders, &self.indices);
         assert_eq!(found, self.answer);
+        // The other cost call answers the same, and its parts have the bits, each rounded up on its own.
+        let exact = cost_exact(self.choice, self.filters, &self.orders, &self.indices);
+        assert_eq!(exact.map(|exact| exact.bits), self.answer);
+        if let Ok(exact) = exact {
+            let (counted, others) = exact.parts.split_at(self.filters.into());
+            let bits: u32 = counted.iter().map(|part| 1 + part.div_ceil(2048)).sum();
+            assert_eq!(u32::from(exact.bits), bits);
+            assert!(others.iter().all(|part| *part == 0));
+        }
     }
 
     fn decodes(&self) {
@@ -215,6 +225,7 @@ fn refusals_leave_the_lines() {
         }
     );
     assert_eq!(cost(2, 1, &[0, 0], &[8; 16]), Err(Refusal::Weighting));
+    assert_eq!(cost_exact(2, 1, &[0, 0], &[8; 16]), Err(Refusal::Weighting));
     let mut lines = [1.5; 399];
     assert_eq!(
         encode(Duration::TenMs, Bandwidth::FullBand, 0, false, &mut lines),
@@ -228,6 +239,7 @@ fn empty_slices() {
     assert_eq!(refused(0, 0, &[], &[]), Refusal::SpectrumLength);
     assert_eq!(refused(400, 0, &[], &[]), Refusal::ListLength);
     assert_eq!(cost(0, 0, &[], &[]), Err(Refusal::ListLength));
+    assert_eq!(cost_exact(0, 0, &[], &[]), Err(Refusal::ListLength));
     assert_eq!(
         encode(
             Duration::SevenPointFiveMs,
