@@ -12,7 +12,8 @@ use gillsextant::decoder::temporal_noise_shaping::apply_temporal_noise_shaping;
 use gillsextant::encoder::temporal_noise_shaping::TemporalNoiseShaping;
 use gillsextant::narration::{read_block, rescue_block, write_block, BlockRefusal};
 use gillsextant::{
-    cost, decode, decode_restart, decode_save, encode, Bandwidth, Duration, Refusal, Saved,
+    cost, cost_exact, decode, decode_restart, decode_save, encode, Bandwidth, Duration, Refusal,
+    Saved,
 };
 use std::arch::asm;
 use std::hint::black_box;
@@ -203,6 +204,16 @@ fn by_cost(word: u32, lines: &[f32]) -> (Outcome, u32) {
     (Outcome::new([u32::from(bits)], lines), after)
 }
 
+fn by_cost_exact(word: u32, lines: &[f32]) -> (Outcome, u32) {
+    let (answer, after) = within(word, || cost_exact(0, 1, &ORDERS, &INDICES));
+    let exact = answer.expect("the side data are accepted");
+    let [first, second] = exact.parts;
+    (
+        Outcome::new([exact.bits.into(), first, second], lines),
+        after,
+    )
+}
+
 fn encode_unguarded(word: u32, lines: &[f32]) -> (Outcome, u32) {
     let mut lines = lines.to_vec();
     let (mut side, mut coefficients) = ([0; 20], [0.0; 16]);
@@ -317,6 +328,23 @@ fn cost_unguarded(word: u32, orders: [u8; 2]) -> [u16; 4] {
         )
     });
     numbers(answer)
+}
+
+/// The numbers of the answer, and the parts as the call leaves them.
+fn cost_exact_unguarded(word: u32, orders: [u8; 2]) -> ([u16; 4], [u32; 2]) {
+    let mut parts = [1, 2];
+    let (answer, _) = within(word, || unsafe {
+        unguarded::tns_cost_2048ths(
+            0,
+            1,
+            orders.as_ptr(),
+            orders.len(),
+            INDICES.as_ptr(),
+            INDICES.len(),
+            &mut parts,
+        )
+    });
+    (numbers(answer), parts)
 }
 
 /// The record of this row and these orders and indices, and the blocks 7 and 65535 that it makes.
@@ -443,6 +471,11 @@ fn cost_is_the_same() {
 }
 
 #[test]
+fn cost_exact_is_the_same() {
+    same_in_every_environment(by_cost_exact);
+}
+
+#[test]
 fn encode_by_the_other_name_is_the_same() {
     same_in_every_environment(by_run);
 }
@@ -487,7 +520,8 @@ fn side_data_and_states_hang_on_the_environment() {
 /// What single products raise: all exceptions but the division by zero. An emulator may have no flag for a
 /// denormal operand; then no call can raise it either.
 fn raised_by_products() -> u32 {
-    let raised = |x: f32, y: f32| within(DEFAULT, || black_box(black_box(x) * black_box(y))).1 & FLAGS;
+    let raised =
+        |x: f32, y: f32| within(DEFAULT, || black_box(black_box(x) * black_box(y))).1 & FLAGS;
     let denormal = raised(f32::from_bits(1), 1.0);
     let small = f32::MIN_POSITIVE;
     let others = raised(0.0, f32::INFINITY) | raised(f32::MAX, f32::MAX) | raised(small, small);
@@ -507,7 +541,7 @@ fn calls_raise_exceptions() {
     }
 }
 
-/// As include/tns.h says, refusals and the cost need no guard in C.
+/// As include/tns.h says, refusals and the cost calls need no guard in C.
 #[test]
 fn refusals_and_cost_are_the_same_unguarded() {
     for lines in spectra() {
@@ -529,6 +563,12 @@ fn refusals_and_cost_are_the_same_unguarded() {
             assert_eq!(
                 cost_unguarded(word, ORDERS),
                 cost_unguarded(DEFAULT, ORDERS)
+            );
+            let refused = cost_exact_unguarded(word, [8, 9]);
+            assert_eq!(refused, ([6, 1, 9, 0], [1, 2]));
+            assert_eq!(
+                cost_exact_unguarded(word, ORDERS),
+                cost_exact_unguarded(DEFAULT, ORDERS)
             );
         }
     }
@@ -580,6 +620,8 @@ fn refusals_leave_the_environment() {
         });
         assert_eq!((answer.err(), after), (Some(Refusal::SpectrumLength), word));
         let (answer, after) = within(word, || cost(2, 1, &ORDERS, &INDICES));
+        assert_eq!((answer, after), (Err(Refusal::Weighting), word));
+        let (answer, after) = within(word, || cost_exact(2, 1, &ORDERS, &INDICES));
         assert_eq!((answer, after), (Err(Refusal::Weighting), word));
         let (lines, mut output) = ([1.5; LINES], [0.0; LINES]);
         let (answer, after) = within(word, || save_at(LINES + 1, &lines, &mut output));
