@@ -303,13 +303,16 @@ def order_of(indices):
 
 
 def filter_cost(tables, weighting, indices):
-    """The bits of one filter, whose order is the number of its indices."""
+    """The cost of one filter, whose order is the number of its indices, in 2048ths of a bit."""
     order = len(indices)
     if order == 0:
-        return 1
-    parts = tables.order_bits[weighting][order - 1]
-    parts += sum(tables.index_bits[k][index] for k, index in enumerate(indices))
-    return 1 + -(-parts // 2048)
+        return 0
+    return tables.order_bits[weighting][order - 1] + sum(tables.index_bits[k][index] for k, index in enumerate(indices))
+
+
+def whole_bits(cost):
+    """One bit, and a cost rounded up to whole bits."""
+    return 1 + -(-cost // 2048)
 
 
 def used(orders, indices, f):
@@ -318,7 +321,7 @@ def used(orders, indices, f):
 
 
 def cost_of(tables, weighting, filters, orders, indices):
-    return sum(filter_cost(tables, weighting, used(orders, indices, f)) for f in range(filters))
+    return sum(whole_bits(filter_cost(tables, weighting, used(orders, indices, f))) for f in range(filters))
 
 
 # Lattices: each filters one line with the coefficients of a filter, at least one,

@@ -9,6 +9,7 @@
         feature = "decode",
         feature = "error",
         feature = "index",
+        feature = "parts",
         feature = "speed"
     )),
     allow(dead_code, unused_imports)
@@ -25,7 +26,8 @@ mod original;
     feature = "restart",
     feature = "encode",
     feature = "index",
-    feature = "lc3"
+    feature = "lc3",
+    feature = "parts"
 ))]
 mod port;
 #[warn(dead_code, unused_imports)]

@@ -8,7 +8,7 @@ use borrow.Author.Tests.{eqb-true}
 use lib.Dec.{eqb, ltb}
 use lib.ListN.{length}
 use Rattle.law_lists.proofs.Every.{and-right}
-use Rattle.check_verdicts.specs.Verdicts.{Verdict, accepted, refused, unlessRefused, check}
+use Rattle.check_verdicts.specs.Verdicts.{Verdict, accepted, refused, unlessRefused}
 use Rattle.check_verdicts.proofs.Verdicts.{check-by}
 use Rattle.cost_call.specs.Cost.{eachRounded}
 use Rattle.cost_bytes.specs.SideBytes.{Fields, costOfFields}

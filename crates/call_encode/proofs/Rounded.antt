@@ -1,5 +1,5 @@
 -- C-15: the bits of an accepted encode call round each counted filter of its side data up on its own, by the law of cost_call.
-use mathlib.Core.Path.{_≡_, refl, sym, _∙_, ap}
+use mathlib.Core.Path.{_≡_, sym, _∙_, ap}
 use mathlib.Core.List.{List}
 use Prim.Native.Nat.{ℕ}
 use lib.Ieee.{Float}

@@ -9,7 +9,7 @@ use lib.ListN.{length}
 use Rattle.check_verdicts.specs.Verdicts.{Verdict, accepted}
 use Rattle.cost_call.specs.Cost.{countedCosts, eachRounded}
 use Rattle.cost_call.proofs.Costs.{cost-rounded}
-use Rattle.cost_bytes.specs.SideBytes.{Fields, Line, short, costs, costOfFields, fieldsOf, lineOf}
+use Rattle.cost_bytes.specs.SideBytes.{Fields, short, costs, costOfFields, fieldsOf, lineOf}
 
 -- the costs of the counted filters of some side data, in 2048ths of a bit
 abbrev pub costsOfFields : Fields → List ℕ

@@ -1,7 +1,7 @@
 -- Laws of the two numbers: a counted filter more, their bound, and the bits of the counted ones.
-use mathlib.Core.Path.{_≡_, refl, sym, _∙_, ap}
-use mathlib.Core.List.{List, [], _∷_, _++_}
-use Prim.Native.Nat.{ℕ, suc, _+_, _*_, _-_, _≤_, _<_}
+use mathlib.Core.Path.{_≡_, refl, sym, _∙_}
+use mathlib.Core.List.{List, [], _∷_}
+use Prim.Native.Nat.{ℕ, suc, _*_, _-_, _<_}
 use native.Mathlib.Omega.{arith}
 use lib.ListN.{length, getD, set, take, drop, replicate}
 use lib.Seq.{take-at}
@@ -11,11 +11,11 @@ use Rattle.law_lists.proofs.Every.{both-at-most, zeros-at-most}
 use Rattle.law_lists.proofs.Filled.{set-next}
 use Rattle.check_limits.proofs.Stands.{none-over}
 use Rattle.check_side.specs.Sides.{SoundSide}
-use Rattle.check_verdicts.specs.Verdicts.{Verdict, accepted, refused, Fault, IfAccepted}
+use Rattle.check_verdicts.specs.Verdicts.{Verdict, accepted, refused, Fault}
 use Rattle.check_verdicts.proofs.Verdicts.{not-accepted}
 use Rattle.cost_filter.specs.FilterCost.{filterCost}
-use Rattle.cost_call.specs.Cost.{countedBits, countedCosts, eachRounded, costOf}
-use Rattle.cost_call.proofs.Costs.{each-rounded, cost-rounded, costs-at-most, cost-by}
+use Rattle.cost_call.specs.Cost.{countedCosts, eachRounded}
+use Rattle.cost_call.proofs.Costs.{costs-at-most}
 use Rattle.cost_parts.specs.Parts.{partsOf, TellsParts}
 
 module _ (weighting : ℕ) (orders indices : List ℕ) where

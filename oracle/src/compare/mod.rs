@@ -1,6 +1,11 @@
 //! The ways of comparing, each once.
 
-#[cfg(any(feature = "decode", feature = "restart", feature = "encode"))]
+#[cfg(any(
+    feature = "decode",
+    feature = "restart",
+    feature = "encode",
+    feature = "parts"
+))]
 pub mod refusals;
 mod same;
 pub mod strange;

@@ -24,6 +24,14 @@ const fn refused(refusal: u16) -> Answer {
     }
 }
 
+/// The answer of an accepted call that has bits.
+pub fn accepted(bits: usize) -> Answer {
+    Answer {
+        bits: bits as u16,
+        ..ACCEPTED
+    }
+}
+
 /// Refusals 1 to 3.
 pub fn spectrum(duration: u8, bandwidth: u8, length: usize) -> Option<Answer> {
     if duration > 1 {
@@ -55,6 +63,12 @@ pub fn side(filters: u8, orders: &[u8], indices: &[u8]) -> Option<Answer> {
         return Some(refused(5));
     }
     lowest_over(6, orders, 8).or_else(|| lowest_over(7, indices, 16))
+}
+
+/// Refusals 4 to 8, of a cost call.
+pub fn cost(weighting: u8, filters: u8, orders: &[u8], indices: &[u8]) -> Option<Answer> {
+    let last = (weighting > 1).then_some(refused(8));
+    side(filters, orders, indices).or(last)
 }
 
 /// Refusals 16 and 17 (docs/RULES.md, "Refusal numbers"), which come after 7: the

@@ -18,22 +18,26 @@ pub fn power(base: f32, exponent: usize) -> f32 {
     result
 }
 
+/// The cost of each filter in 2048ths of a bit: that of its order and those of its
+/// indices below the order, and 0 for a filter that is not counted (docs/RULES.md,
+/// "Cost before rounding (C-15)"). Assumes side data that the rules accept.
+pub fn parts(side: &Side) -> [usize; 2] {
+    std::array::from_fn(|filter| {
+        let (order, indices) = side.of(filter);
+        if filter >= side.filters || order == 0 {
+            return 0;
+        }
+        let used = table::AC_TNS_COEF_BITS.iter().zip(&indices[..order]);
+        let of_indices: usize = used.map(|(costs, index)| costs[*index]).sum();
+        table::AC_TNS_ORDER_BITS[side.weighting as usize][order - 1] + of_indices
+    })
+}
+
 /// One bit per counted filter plus its cost in 2048ths, rounded up, in whole
 /// numbers (docs/RULES.md, "Cost"). Assumes side data that the rules accept.
 pub fn cost(side: &Side) -> usize {
-    let mut bits = 0;
-    for f in 0..side.filters {
-        let order = side.orders[f];
-        let mut parts = 0;
-        if order > 0 {
-            parts += table::AC_TNS_ORDER_BITS[side.weighting as usize][order - 1];
-        }
-        for k in 0..order {
-            parts += table::AC_TNS_COEF_BITS[k][side.indices[f * 8 + k]];
-        }
-        bits += 1 + parts.div_ceil(2048);
-    }
-    bits
+    let counted = parts(side).into_iter().take(side.filters);
+    counted.map(|part| 1 + part.div_ceil(2048)).sum()
 }
 
 /// 8 plus, or minus for a negative x, the number of thresholds not above |x|.

@@ -12,5 +12,5 @@ pub mod refused;
 pub mod spectra;
 pub mod steer;
 
-pub use numbers::{any_side, every_place, every_side, length, over};
+pub use numbers::{any_side, as_second, every_place, every_shape, every_side, length, over};
 pub use random::{say_seed, two, Random, SEED};

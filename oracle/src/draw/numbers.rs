@@ -59,6 +59,30 @@ pub fn every_side(most: usize, mut with: impl FnMut(&Side)) {
     }
 }
 
+/// The filter as the second of two, where the first has order 0. Assumes one filter.
+pub fn as_second(side: &Side) -> Side {
+    let mut other = side.clone();
+    other.filters = 2;
+    other.orders.swap(0, 1);
+    other.indices.rotate_left(8);
+    other
+}
+
+/// Every filter count with both weightings and every pair of orders. All indices
+/// are 8.
+pub fn every_shape(mut with: impl FnMut(Side)) {
+    for filters in 0..=2 {
+        for weighting in 0..2 {
+            for pair in 0..81 {
+                let mut side = Side::plain(weighting, pair / 9);
+                side.filters = filters;
+                side.orders[1] = pair % 9;
+                with(side);
+            }
+        }
+    }
+}
+
 /// A byte over `most`.
 pub fn over(random: &mut Random, most: usize) -> u8 {
     (most + 1 + random.below(255 - most)) as u8

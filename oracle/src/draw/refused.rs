@@ -82,12 +82,18 @@ impl Input {
         }
     }
 
+    /// The side data of an input that the rules accept, with a weighting.
+    pub fn side(&self, weighting: u8) -> Option<Side> {
+        let head = [weighting, self.filters];
+        let numbers = [&head, &self.orders[..], &self.indices].concat();
+        Some(Side::of_record(numbers[..].try_into().ok()?))
+    }
+
     /// The call of an input that the rules accept.
     pub fn call(&self, lines: Vec<f32>) -> Option<Decode> {
-        let numbers = [&[0, self.filters], &self.orders[..], &self.indices].concat();
         Some(Decode {
             row: Row::of(self.duration, self.bandwidth)?,
-            side: Side::of_record(numbers[..].try_into().ok()?),
+            side: self.side(0)?,
             kind: 0,
             lines,
         })

@@ -26,6 +26,14 @@ impl Guarded for u8 {
     }
 }
 
+impl Guarded for u32 {
+    const GUARD: u32 = 0xA55A_5AA5;
+
+    fn is_guard(&self) -> bool {
+        *self == Self::GUARD
+    }
+}
+
 pub struct Lent<T> {
     cells: Vec<T>,
 }

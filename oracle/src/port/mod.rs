@@ -3,6 +3,8 @@
 //! crate in `rust/`: its functions keep them to themselves, take no number that
 //! the rules refuse, and lend memory of their own, where no guards lie.
 
+#[cfg(feature = "parts")]
+mod cost;
 #[cfg(any(feature = "decode", feature = "lc3"))]
 mod decoder;
 #[cfg(any(feature = "encode", feature = "lc3"))]
@@ -13,6 +15,8 @@ mod lent;
 #[cfg(feature = "restart")]
 mod restart;
 
+#[cfg(feature = "parts")]
+pub use cost::costs;
 #[cfg(any(feature = "decode", feature = "lc3"))]
 pub use decoder::{decode, decode_lines};
 #[cfg(any(feature = "encode", feature = "lc3"))]

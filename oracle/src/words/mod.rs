@@ -13,6 +13,8 @@ mod index;
 #[cfg(feature = "lc3")]
 mod lc3;
 mod lists;
+#[cfg(feature = "parts")]
+mod parts;
 mod powi;
 #[cfg(feature = "restart")]
 mod restart;
@@ -31,6 +33,8 @@ pub fn run(word: &str, root: &Path) -> Option<bool> {
         "lists" => lists::run(root),
         #[cfg(feature = "index")]
         "index" => index::run(),
+        #[cfg(feature = "parts")]
+        "parts" => parts::run(),
         #[cfg(feature = "decode")]
         "decode" => decode::run(),
         #[cfg(feature = "restart")]

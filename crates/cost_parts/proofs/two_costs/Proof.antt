@@ -1,10 +1,9 @@
 -- The invariant of the loop: the costs of the filters passed, and 0 behind them.
-use mathlib.Core.Path.{_≡_, refl, sym, _∙_}
-use Prim.Native.Nat.{ℕ, suc, _+_, _*_, _-_, _≤_}
+use mathlib.Core.Path.{_≡_, refl, sym}
+use Prim.Native.Nat.{_*_, _-_, _≤_}
 use native.Mathlib.Numerals.{add-one}
 use native.Mathlib.Omega.{arith}
 use borrow.Author.Needs.{needs}
-use lib.ListN.{length}
 use Rattle.cost_call.proofs.AtPlace.{priceable-from, cost-at}
 use Rattle.cost_parts.specs.Parts.{partsOf}
 use Rattle.cost_parts.proofs.Parts.{no-parts, parts-more}

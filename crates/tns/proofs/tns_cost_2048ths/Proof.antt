@@ -1,5 +1,5 @@
 -- It answers what `cost_2048ths` says, and leaves what that leaves.
-use mathlib.Core.Path.{_≡_, sym, _∙_, ap, subst}
+use mathlib.Core.Path.{sym, _∙_, ap, subst}
 use Prim.Native.Nat.{ℕ, _≤_}
 use borrow.Author.Needs.{needs}
 use Rattle.check_verdicts.specs.Verdicts.{Verdict, placeOf, ofFault, itsBits}
