@@ -1,7 +1,7 @@
 /* A rate planner's sum: what the side data of many frames cost together. The program encodes 1,000 frames
  * and adds up their bits, which are rounded up for each filter. It also adds up the same costs before they
- * are rounded, and rounds that sum once. It checks that each frame's bits are its parts, each rounded up on
- * its own, and that a refused call leaves the parts as they were. */
+ * are rounded, and rounds that sum once. It checks that each frame's bits, the encoder's and the cost call's,
+ * are its parts, each rounded up on its own, and that a refused call leaves the parts as they were. */
 #include <stdio.h>
 
 #include "tns.h"
@@ -27,14 +27,14 @@ int main(void)
     for (int f = 0; f < FRAMES; f++) {
         uint32_t parts[2] = {0, 0};
         make_lines(f, lines);
-        tns_encode(DURATION, BANDWIDTH, BITS, false, lines, LINES, side, coefficients);
+        tns_answer e = tns_encode(DURATION, BANDWIDTH, BITS, false, lines, LINES, side, coefficients);
         tns_answer a = tns_cost_2048ths(side[0], side[1], side + 2, 2, side + 4, 16, parts);
         uint32_t bits = 0;
         for (int i = 0; i < side[1]; i++) {
             bits += 1 + (parts[i] + 2047) / 2048;
             parts_sum += parts[i];
         }
-        wrong += a.refusal != TNS_ACCEPTED || a.bits != bits;
+        wrong += a.refusal != TNS_ACCEPTED || a.bits != bits || e.bits != bits;
         filters += side[1];
         rounded += a.bits;
     }

@@ -3,13 +3,13 @@
  *
  * - Accepted calls: each weighting, filter count and pair of orders, 486 in all, with 2,500 draws of sixteen
  *   indices for each. Both parts, the bits and every other number of both answers must be the model's.
- * - Refused calls: numbers and list lengths drawn near and far beyond their limits, so that several refusals
- *   often apply. Both calls must answer the model's refusal, and the parts must be as they were.
+ * - Refused calls: any bytes as numbers, lists of 0 to 4 orders and of 0 to 20 indices, so that several
+ *   refusals often apply. Both calls must answer the model's refusal, and the parts must be as they were.
  * - The words beside the parts must never change.
  *
- * It also counts the accepted calls that would have other bits if both filters were rounded up together. If
- * there were none, the comparison could not tell that error, so this fails too. Prints the counts. Status 1
- * if anything is wrong. */
+ * It also counts how often each refusal was the answer, and the accepted calls that would have other bits if
+ * both filters were rounded up together. If one of these never occurred, the comparison could not tell that
+ * error, so this fails too. Prints the counts. Status 1 if anything is wrong. */
 #include <stdbool.h>
 #include <stdio.h>
 #include <string.h>
@@ -94,7 +94,7 @@ static bool is_same(tns_answer a, tns_answer b)
     return a.refusal == b.refusal && a.place == b.place && a.found == b.found && a.bits == b.bits;
 }
 
-static int wrong, apart;
+static int wrong, apart, given[9];
 static uint32_t most;
 
 /* Both calls on the side data that was drawn. */
@@ -117,12 +117,14 @@ static void compare(void)
                    w.answer.bits, left[1], left[2], w.parts[0], w.parts[1], plain.refusal, exact.refusal,
                    w.answer.refusal);
     }
+    given[w.answer.refusal]++;
     if (w.answer.refusal != 0) return;
     for (int f = 0; f < 2; f++)
         if (left[1 + f] > most) most = left[1 + f];
     apart += w.answer.bits != side.filters + rounded_up(w.parts[0] + w.parts[1]);
 }
 
+/* Sixteen indices, and some behind them for a list that is too long. */
 static void draw_indices(uint32_t limit)
 {
     for (int i = 0; i < 20; i++) side.indices[i] = (uint8_t)below(limit);
@@ -143,7 +145,7 @@ int main(void)
         }
     }
     while (refused < REFUSED) {
-        static const uint8_t limits[] = {17, 18, 20, 255};
+        static const uint32_t limits[] = {17, 18, 20, 256};
         side.weighting = (uint8_t)below(below(2) ? 2 : 256);
         side.filters = (uint8_t)below(below(4) ? 3 : 256);
         for (int f = 0; f < 4; f++) side.orders[f] = (uint8_t)below(below(4) ? 9 : 256);
@@ -158,5 +160,10 @@ int main(void)
     printf("costs: %d accepted and %d refused calls of each kind, %d wrong; the largest part is %u\n",
            accepted, refused, wrong, most);
     printf("costs: %d of the accepted have other bits if both filters are rounded up together\n", apart);
-    return wrong != 0 || apart == 0 || most > 83 * 2048;
+    bool is_missing = false;
+    for (int number = 4; number <= 8; number++) {
+        printf("costs: refusal %d was the answer %d times\n", number, given[number]);
+        is_missing |= given[number] == 0;
+    }
+    return wrong != 0 || apart == 0 || is_missing || most > 83 * 2048;
 }

@@ -1,5 +1,5 @@
-/* Table T's costs, for the gate's model of block files (narration.c): taken from the text of T, not from the
- * library. */
+/* Table T's costs, for the gate's model of block files (narration.c) and for costs.c: taken from the text of T,
+ * not from the library. */
 #ifndef COSTS_H
 #define COSTS_H
 

@@ -234,6 +234,25 @@ fn refusals_leave_the_lines() {
     assert_eq!(lines, [1.5; 399]);
 }
 
+/// What the rules give, at both weightings, with every count, and with parts that all differ.
+#[test]
+fn costs_before_rounding() {
+    let mut indices = [8; 16];
+    indices[..2].copy_from_slice(&[7, 9]);
+    indices[8] = 0;
+    let exact = |weighting, filters, orders| {
+        let exact = cost_exact(weighting, filters, orders, &indices).expect("accepted");
+        (exact.bits, exact.parts)
+    };
+    // orders 2 and 1: 13988 + 6335 + 5485, and 17234 + 20480; then with the other weighting's orders
+    assert_eq!(exact(0, 2, &[2, 1]), (14 + 20, [25808, 37714]));
+    assert_eq!(exact(1, 2, &[2, 1]), (12 + 18, [21257, 33163]));
+    assert_eq!(exact(0, 1, &[2, 1]), (14, [25808, 0]));
+    assert_eq!(exact(0, 0, &[2, 1]), (0, [0, 0]));
+    assert_eq!(exact(0, 2, &[0, 1]), (1 + 20, [0, 37714]));
+    assert_eq!(exact(1, 2, &[2, 0]), (12 + 1, [21257, 0]));
+}
+
 #[test]
 fn empty_slices() {
     assert_eq!(refused(0, 0, &[], &[]), Refusal::SpectrumLength);

@@ -1,7 +1,7 @@
 -- C-15: the bits of a sound record round each counted filter up on its own, by the law of cost_call.
 use mathlib.Core.Path.{_≡_, refl, sym, _∙_}
 use mathlib.Core.Bool.{Bool, true, false}
-use mathlib.Core.List.{List}
+use mathlib.Core.List.{List, [], _∷_, _++_}
 use Prim.Native.Nat.{ℕ}
 use native.Mathlib.Omega.{arith}
 use borrow.Author.Tests.{eqb-true}
@@ -10,9 +10,14 @@ use lib.ListN.{length}
 use Rattle.law_lists.proofs.Every.{and-right}
 use Rattle.check_verdicts.specs.Verdicts.{Verdict, accepted, refused, unlessRefused}
 use Rattle.check_verdicts.proofs.Verdicts.{check-by}
-use Rattle.cost_call.specs.Cost.{eachRounded}
+use Rattle.law_lists.specs.Counted.{counted, total}
+use Rattle.check_limits.specs.LowestOver.{lowestOver}
+use Rattle.check_side.specs.Sides.{sideChecks}
+use Rattle.cost_tables.specs.Tables.{ofOrder, cellsFrom}
+use Rattle.cost_filter.specs.FilterCost.{orderCost, indexCosts, filterCost, wholeBits, filterBits}
+use Rattle.cost_call.specs.Cost.{countedBits, countedCosts, eachRounded, costOf}
 use Rattle.cost_bytes.specs.SideBytes.{Fields, costOfFields}
-use Rattle.cost_bytes.proofs.Rounded.{costsOfFields, fields-rounded}
+use Rattle.cost_bytes.proofs.Rounded.{costsOfFields, fields-rounded, nine}
 use Rattle.block_record.specs.RecordBytes.{recordedOf, recordedCost, soundRecord}
 
 -- bits that are found to be a verdict's
@@ -38,3 +43,11 @@ record-rounded bytes sound =
     (λ e. check-by (Rounds (kept .side) (kept .bits)) 2 (ltb 4 (kept .bandwidth)) _ no-bits
     (λ e. of-cost (kept .side) (kept .bits) (costOfFields (kept .side)) refl))
     (and-right (eqb (length bytes) 24) (Told (kept .bits) (recordedCost kept)) sound)
+
+-- a case that tells both ways of rounding apart: order 1 and index 9 in two filters, each of which takes 13 bits; rounded up together they would take 25
+unfoldable two-nines : ℕ → List ℕ
+two-nines bits = 0 ∷ 0 ∷ 2 ∷ 0 ∷ 1 ∷ 1 ∷ nine ++ nine ++ bits ∷ 0 ∷ []
+
+sound-at-26 : (soundRecord (two-nines 26) ≡ true) × (soundRecord (two-nines 25) ≡ false)
+unfolding two-nines soundRecord costOf sideChecks lowestOver countedBits countedCosts counted total filterBits wholeBits filterCost orderCost ofOrder indexCosts cellsFrom
+sound-at-26 = (refl, refl)

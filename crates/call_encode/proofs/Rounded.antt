@@ -6,19 +6,12 @@ use lib.Ieee.{Float}
 use Rattle.check_verdicts.specs.Verdicts.{Verdict, accepted, refused}
 use Rattle.check_verdicts.proofs.Verdicts.{not-accepted}
 use Rattle.row_bands.specs.declared.Row.{Row}
-use Rattle.cost_call.specs.Cost.{countedCosts, eachRounded}
-use Rattle.cost_call.proofs.Costs.{each-rounded}
-use Rattle.side_data.specs.Side.{ordersIn, indicesIn, bitsOf}
+use Rattle.cost_call.specs.Cost.{eachRounded}
+use Rattle.side_data.specs.Side.{bitsOf}
 use Rattle.side_data.specs.declared.SideData.{SideData}
+use Rattle.side_data.proofs.Rounded.{costsIn, side-rounded}
 use Rattle.call_encode.specs.Encoder.{bitsVerdict, sideIn, encodeSays, Encodes}
 use Rattle.call_encode.specs.declared.Encoded.{Encoded}
-
--- the costs of the counted filters of side data, in 2048ths of a bit
-abbrev pub costsIn : SideData → List ℕ
-costsIn side = countedCosts (side .weighting) (side .filters) (ordersIn side) (indicesIn side)
-
-side-rounded : (side : SideData) → bitsOf side ≡ eachRounded (costsIn side)
-side-rounded side = each-rounded (side .weighting) (side .filters) (ordersIn side) (indicesIn side)
 
 reported : (verdict : Verdict SideData) (bits : ℕ) → accepted bits ≡ bitsVerdict verdict → bits ≡ eachRounded (costsIn (sideIn verdict))
 reported (accepted side) bits e = let same : bits ≡ bitsOf side = cc in same ∙ side-rounded side

@@ -2,11 +2,11 @@
 -- refusals or the bits of sound side data, bits add up filter by filter, and each filter's cost is rounded up on its own. They rest on the laws of one
 -- filter.
 use mathlib.Core.Path.{_≡_, refl, sym, _∙_, ap}
-use mathlib.Core.List.{List, [], _∷_}
+use mathlib.Core.List.{List, [], _∷_, _++_}
 use Prim.Native.Nat.{ℕ, zero, suc, _+_, _*_, _≤_, _<_}
 use lib.Dec.{ltb}
 use native.Mathlib.Omega.{arith}
-use lib.ListN.{getD, take, drop}
+use lib.ListN.{getD, take, drop, replicate}
 use lib.Seq.{getD-drop}
 use Rattle.law_lists.specs.Counted.{counted, total}
 use Rattle.law_lists.specs.Every.{EachAtMost}
@@ -16,7 +16,8 @@ use Rattle.check_side.specs.Sides.{SoundSide}
 use Rattle.check_verdicts.proofs.Verdicts.{check-by, not-accepted}
 use Rattle.check_side.proofs.Checks.{sides-by}
 use Rattle.check_limits.proofs.Stands.{none-over}
-use Rattle.cost_filter.specs.FilterCost.{filterCost, wholeBits, filterBits}
+use Rattle.cost_tables.specs.Tables.{ofOrder, cellsFrom}
+use Rattle.cost_filter.specs.FilterCost.{orderCost, indexCosts, filterCost, wholeBits, filterBits}
 use Rattle.cost_filter.proofs.FilterCosts.{off-bits, filter-cost-at-most, filter-bits-at-most}
 use Rattle.cost_call.specs.Cost.{countedBits, countedCosts, eachRounded, costOf}
 
@@ -103,6 +104,11 @@ pub each-rounded : (weighting filters : ℕ) (orders indices : List ℕ)
     → countedBits weighting filters orders indices ≡ eachRounded (countedCosts weighting filters orders indices)
 unfolding countedBits eachRounded countedCosts filterBits
 each-rounded weighting filters orders indices = ap total (sym (counted-mapped wholeBits (filterCost weighting) filters orders indices))
+
+-- a case that tells both ways of rounding apart: order 1 and index 9 in two filters, each of which takes 13 bits; rounded up together they would take 25
+two-nines : countedBits 0 2 (1 ∷ 1 ∷ []) (9 ∷ replicate 7 8 ++ 9 ∷ replicate 7 8) ≡ 26
+unfolding countedBits counted total filterBits wholeBits filterCost orderCost ofOrder indexCosts cellsFrom
+two-nines = refl
 
 -- the bits of an accepted cost call
 pub cost-rounded : (weighting filters : ℕ) (orders indices : List ℕ) (bits : ℕ) → accepted bits ≡ costOf weighting filters orders indices

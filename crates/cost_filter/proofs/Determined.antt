@@ -9,4 +9,4 @@ filter-cost : Determined 2 filter-cost-kinds.ps filter-cost-kinds.r filter-cost-
 filter-cost κs a x y s t p q = itself (p .cost) (q .cost)
 
 whole-bits : Determined 0 whole-bits-kinds.ps whole-bits-kinds.r whole-bits-reads.Post
-whole-bits κs a x y s t p q = itself p q
+whole-bits κs a x y s t p q = itself (p .bits) (q .bits)

@@ -20,8 +20,14 @@ filterCost weighting order indices = orderCost weighting order + indexCosts (tak
 unfoldable pub wholeBits : ℕ → ℕ
 wholeBits cost = 1 + (cost + 2047) / 2048
 
+-- the bits of one filter
 unfoldable pub filterBits : ℕ → ℕ → List ℕ → ℕ
 filterBits weighting order indices = wholeBits (filterCost weighting order indices)
+
+-- What is promised of the bits of a cost: these are the definition's, and at most 84.
+pub record RoundedUp (cost result : ℕ) : Type 0 where
+  pub bits : result ≡ wholeBits cost
+  pub few : result ≤ 84
 
 -- What is promised of one filter's cost: it is the definition's, and at most 83 whole bits up to order 8.
 pub record FilterPriced (weighting order : ℕ) (indices : List ℕ) (result : ℕ) : Type 0 where

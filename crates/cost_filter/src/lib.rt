@@ -7,7 +7,7 @@ use cost_tables::order_bits;
 ghost use mathlib.Core.Path.{_≡_};
 ghost use Prim.Native.Nat.{_*_, _≤_};
 ghost use lib.ListN.{take};
-ghost use Rattle.cost_filter.specs.FilterCost.{indexCosts, wholeBits, FilterPriced};
+ghost use Rattle.cost_filter.specs.FilterCost.{indexCosts, RoundedUp, FilterPriced};
 ghost use Rattle.cost_filter.specs.Priceable.{Priceable};
 
 // What the indices below an order cost together, each at its place. Each cost is read before the order is
@@ -43,7 +43,7 @@ pub fn filter_cost(costs: &[u16; 136], weighting: u8, order: u8, indices: &[u8])
 // order up to 8.
 pub fn whole_bits(cost: u32) -> u16
     requires { ⌜ cost ≤ 83 * 2048 ⌝ }
-    ensures { λ r. ⌜ r ≡ wholeBits cost ⌝ }
+    ensures { λ r. ⌜ RoundedUp cost r ⌝ }
 {
     1 + ((cost + 2047) / 2048) as u16
 }

@@ -1,2 +1,3 @@
 -- The laws that belong to no one function.
+pub mod Rounded
 pub mod Determined

@@ -9,7 +9,6 @@ use borrow.Author.Tests.{eqb-true}
 use lib.ListN.{length, getD, take, drop, List·getD-eq-default}
 use Rattle.law_lists.specs.Counted.{counted, total}
 use Rattle.cost_filter.specs.FilterCost.{filterCost, wholeBits, filterBits}
-use Rattle.cost_filter.proofs.FilterCosts.{whole-bits-at-most}
 use Rattle.cost_call.specs.Cost.{countedBits}
 use Rattle.cost_call.proofs.Costs.{one-more, all-off}
 use Rattle.cost_call.proofs.AtPlace.{priceable-from, cost-at, few-at}
@@ -84,16 +83,13 @@ its-bits : (c : tie.After-whole-bits Inv-loop μ-loop) →
     let g = c .before .before .before .before .before .before .before .before .before .before .before .before .args in
     c .whole-bits .result ≡ filterBits (g .weighting) (getD (g .orders .now) filter 0) (take 8 (drop (8 * filter) (g .indices .now)))
 unfolding filterBits
-its-bits c = c .whole-bits .ensures ∙ ap wholeBits (one (c .before))
-
-few-bits : (c : tie.After-whole-bits Inv-loop μ-loop) → c .whole-bits .result ≤ 84
-few-bits c = omega (arith, c .whole-bits .ensures, whole-bits-at-most (c .before .filter-cost .result) (few (c .before)))
+its-bits c = c .whole-bits .ensures .bits ∙ ap wholeBits (one (c .before))
 
 add-bits : tie.Need-add-bits Inv-loop μ-loop
 add-bits c =
     let at = c .before .before .before .before .before .before in
     let start = at .before .before .before .before .before .before in
-    record { fits = omega (arith, start .pre .count-at-most-2, few-bits c, at .loop .inv .3) }
+    record { fits = omega (arith, start .pre .count-at-most-2, c .whole-bits .ensures .few, at .loop .inv .3) }
 
 loop-again : tie.Need-loop-again Inv-loop μ-loop
 loop-again c =
@@ -103,7 +99,7 @@ loop-again c =
       omega arith,
       refl,
       rw add-one (omega (arith, l .inv .2, its-bits c, one-more (g .weighting) (l .filter) (g .orders .now) (g .indices .now))),
-      omega (arith, l .inv .3, few-bits c),
+      omega (arith, l .inv .3, c .whole-bits .ensures .few),
     )
 
 returns-2 : tie.Need-returns-2 Inv-loop μ-loop

@@ -6,7 +6,7 @@ use Rattle.cost_filter.proofs.whole_bits.Tie as tie
 
 returns : tie.Need-returns
 unfolding wholeBits
-returns c = omega arith
+returns c = record { bits = omega arith; few = omega (arith, c .pre) }
 
 pub whole-bits-spec : {M : Type 1} → statement M
 whole-bits-spec = tie.close (tie.spec (λ c. omega (arith, c .pre)) (λ c. omega (arith, c .pre)) (λ c. omega (arith, c .pre)) returns)
