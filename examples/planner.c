@@ -1,14 +1,15 @@
 /* A rate planner's sum: what the side data of many frames cost together. The program encodes 1,000 frames
  * and adds up their bits, which are rounded up for each filter. It also adds up the same costs before they
- * are rounded, and rounds that sum once. It checks that each frame's bits, the encoder's and the cost call's,
- * are its parts, each rounded up on its own, and that a refused call leaves the parts as they were. */
+ * are rounded, and rounds that sum once. It checks that each frame's bits, from the encoder and from the
+ * cost call, are one bit and the part rounded up, for each filter, and that a refused call leaves the
+ * parts as they were. */
 #include <stdio.h>
 
 #include "tns.h"
 
 enum { DURATION = 0, BANDWIDTH = 4, LINES = 400, BITS = 320, FRAMES = 1000 };
 
-/* A spectrum that falls by another factor in each of 97 frames, with every third to seventh line negative. */
+/* A spectrum that falls by another factor in each of 97 frames; every third to seventh line is negative. */
 static void make_lines(int f, float lines[LINES])
 {
     float line = 1000, falls = 0.9f + 0.09f * (float)(f % 97) / 97;

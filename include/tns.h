@@ -25,8 +25,8 @@
  *     tns_answer answer = tns_decode(...);
  *     tns_float_leave(callers);
  *
- * Refusals, the two cost calls and the three block calls use whole numbers alone and need no guard. The Rust
- * crate guards each of its calls by itself.
+ * Refusals, the two cost calls and the three block calls use whole numbers alone and need no guard. The
+ * Rust crate guards each of its calls by itself.
  */
 #ifndef TNS_H
 #define TNS_H
@@ -155,14 +155,16 @@ tns_answer tns_cost(uint8_t weighting, uint8_t filters, const uint8_t *orders, s
                     const uint8_t *indices, size_t indices_len);
 
 /* The same bits, and what each filter costs before it is rounded. Answers what tns_cost does. An accepted
- * call also writes, for each counted filter, its cost in 2048ths of a bit, without the one bit that every
- * counted filter takes. The part of a filter that is not counted is 0, and so is that of order 0. A part is
- * at most 83 * 2048 = 169984. A refused call leaves both parts as they were. Refusals 4 to 8.
+ * call also writes to parts, for each counted filter (the first `filters` of the two), its cost in 2048ths
+ * of a bit, without the one bit that every counted filter takes. The part of a filter that is not counted
+ * is 0, and so is that of order 0. A part is at most 83 * 2048 = 169984. A refused call leaves both parts
+ * as they were. Refusals 4 to 8.
  *
- * The bits are 1 + (part + 2047) / 2048 for each counted filter, added up: each filter is rounded up on its
- * own. To plan over many frames, add up the parts and the filter counts of all, and round once: together the
- * frames cost filters + (parts + 2047) / 2048 bits. A uint64_t has room for the parts of 2^45 frames.
- * examples/planner.c does this. docs/RULES.md, "Cost before rounding (C-15)". */
+ * The bits are 1 + (part + 2047) / 2048 for each counted filter, added up: each filter is rounded up on
+ * its own. To plan over many frames, add up the parts and the filter counts of all, and round once: together
+ * their side data cost filters + (parts + 2047) / 2048 bits, where filters and parts are these sums. A
+ * uint64_t has room for the parts of 2^45 frames. examples/planner.c does this. docs/RULES.md,
+ * "Cost before rounding (C-15)". */
 tns_answer tns_cost_2048ths(uint8_t weighting, uint8_t filters, const uint8_t *orders,
                             size_t orders_len, const uint8_t *indices, size_t indices_len,
                             uint32_t parts[2]);

@@ -81,8 +81,9 @@ pub fn told_at_line(answer: LineAnswer) -> Answer
     }
 }
 
-// What `cost_2048ths` answers. It requires a place that fits, as `refused` does: the call has checked it.
-// `tns_cost` has the same two cases in its own body: through this function the compiler makes its call longer.
+// The answer of `cost_2048ths` in numbers. It requires a place that fits, as `refused` does: the call has
+// checked it. `tns_cost` has the same two cases in its own body: through this function it was slower
+// (docs/DECISIONS.md, "Speed").
 pub fn told_cost(answer: CostAnswer) -> Answer
     requires { ⌜ ofFault placeOf (costSays answer) ≤ 15 ⌝ }
     ensures { λ r. ⌜ r ≡ answerFor itsBits (costSays answer) ⌝ }

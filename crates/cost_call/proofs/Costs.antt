@@ -98,8 +98,8 @@ all-off weighting (suc n) orders indices off =
 -- ---- the bits, from costs that are not rounded (C-15)
 
 -- The law of rounding: the bits of side data are those of its counted filters' costs, each of which is rounded up on its own. Every place that gives
--- bits cites it: the cost call here, the bits program (cost_bytes), the records (block_record), the encoder's result (call_encode), the planner's call
--- (cost_parts).
+-- bits cites it, or `cost-rounded` below: the cost call here, the bits program (cost_bytes), the records (block_record), the encoder's result (side_data,
+-- call_encode), the planner's call (cost_parts).
 pub each-rounded : (weighting filters : ℕ) (orders indices : List ℕ)
     → countedBits weighting filters orders indices ≡ eachRounded (countedCosts weighting filters orders indices)
 unfolding countedBits eachRounded countedCosts filterBits
@@ -122,7 +122,7 @@ cost-rounded weighting filters orders indices =
     (λ bits e. not-accepted (sym e))
     (λ sound bits e. let same : bits ≡ countedBits weighting filters orders indices = cc in same ∙ each-rounded weighting filters orders indices)
 
--- no counted filter of sound side data costs more than 83 whole bits
+-- no counted filter of sound side data costs more than 83 * 2048
 pub costs-at-most : (weighting filters : ℕ) (orders indices : List ℕ) → EachAtMost 8 orders → EachAtMost (83 * 2048) (countedCosts weighting filters orders indices)
 unfolding countedCosts counted
 costs-at-most weighting zero orders indices few place = omega arith

@@ -1,5 +1,5 @@
 -- Laws of a filter's cost that callers use in place of its text: a filter that is off costs nothing and takes one bit, a filter within the limits costs
--- at most 83 whole bits and takes at most 84, and every sum on the way is below 2 ^ 24. The bounds rest on laws of the tables.
+-- at most 83 * 2048 and takes at most 84 bits, and every sum on the way is below 2 ^ 24. The bounds rest on laws of the tables.
 use mathlib.Core.Path.{_≡_, refl}
 use mathlib.Core.List.{List}
 use Prim.Native.Nat.{ℕ, _+_, _*_, _^_, _≤_, _<_}

@@ -29,7 +29,7 @@ pub record RoundedUp (cost result : ℕ) : Type 0 where
   pub bits : result ≡ wholeBits cost
   pub few : result ≤ 84
 
--- What is promised of one filter's cost: it is the definition's, and at most 83 whole bits up to order 8.
+-- What is promised of one filter's cost: it is the definition's, and at most 83 * 2048 up to order 8.
 pub record FilterPriced (weighting order : ℕ) (indices : List ℕ) (result : ℕ) : Type 0 where
   pub cost : result ≡ filterCost weighting order indices
   pub few : order ≤ 8 → result ≤ 83 * 2048

@@ -1,7 +1,7 @@
-// What one filter costs: E's `calc_bit_budget` of one filter, in whole numbers: first in 2048ths of a bit,
-// then in bits. It rests on the contracts of the tables alone. A function that is lent the costs of
-// `cost_tables::coef_costs` requires no other numbers there, and eight indices of at most 16: the caller has
-// bound those costs and checked the indices. Any weighting and any order will do.
+// What one filter costs, in 2048ths of a bit and in bits: E's `calc_bit_budget` of one filter, in whole
+// numbers. It rests on the contracts of the tables alone. `index_costs` and `filter_cost` are lent the costs
+// of `cost_tables::coef_costs`, and require just those, and eight indices of at most 16: the caller has bound
+// the costs and checked the indices. They take any weighting and any order.
 use cost_tables::coef_bits;
 use cost_tables::order_bits;
 ghost use mathlib.Core.Path.{_≡_};
