@@ -161,9 +161,9 @@ tns_answer tns_cost(uint8_t weighting, uint8_t filters, const uint8_t *orders, s
  * as they were. Refusals 4 to 8.
  *
  * The bits are 1 + (part + 2047) / 2048 for each counted filter, added up: each filter is rounded up on
- * its own. To plan over many frames, add up the parts and the filter counts of all, and round once: together
- * their side data cost filters + (parts + 2047) / 2048 bits, where filters and parts are these sums. A
- * uint64_t has room for the parts of 2^45 frames. examples/planner.c does this. docs/RULES.md,
+ * its own. To plan over many frames, add up the parts and the filter counts of all, and round once:
+ * together their side data cost filters + (parts + 2047) / 2048 bits, where filters and parts are these
+ * sums. A uint64_t has room for the parts of 2^45 frames. examples/planner.c does this. docs/RULES.md,
  * "Cost before rounding (C-15)". */
 tns_answer tns_cost_2048ths(uint8_t weighting, uint8_t filters, const uint8_t *orders,
                             size_t orders_len, const uint8_t *indices, size_t indices_len,
