@@ -4,10 +4,14 @@ use lib.Ieee.{Float}
 use Rattle.row_bands.specs.declared.Row.{Row}
 use Rattle.lattice_encoder.specs.EncoderLattice.{lineEncoded}
 use Rattle.lattice_rows.specs.Filters.{Filter, filterWith, rowFiltered}
+use Rattle.side_quantized.specs.declared.Quantized.{Quantized}
 use Rattle.side_data.specs.declared.SideData.{SideData}
 
+abbrev pub filterIn : Quantized → Filter
+filterIn filter = filterWith (filter .coefficients) (filter .order)
+
 abbrev pub filtersIn : SideData → List Filter
-filtersIn side = filterWith (side .first .coefficients) (side .first .order) ∷ filterWith (side .second .coefficients) (side .second .order) ∷ []
+filtersIn side = filterIn (side .first) ∷ filterIn (side .second) ∷ []
 
 -- the lines through both filters of some side data, each in its band
 unfoldable pub filteredBy : SideData → Row → List Float → List Float

@@ -9,10 +9,11 @@ ghost use mathlib.Core.Path.{_≡_};
 ghost use Prim.Native.Nat.{_≤_};
 ghost use lib.ListN.{length};
 ghost use Rattle.row_bands.proofs.Bands.{Fits, SoundRow};
+ghost use Rattle.lattice_lines.specs.Lattice.{atRest};
 ghost use Rattle.lattice_encoder.specs.EncoderLattice.{lineEncoded};
 ghost use Rattle.lattice_rows.specs.Filters.{filterWith, FilteredIn};
 ghost use Rattle.side_data.specs.Limits.{Reported};
-ghost use Rattle.side_encoded.specs.SideFilters.{filteredBy};
+ghost use Rattle.side_encoded.specs.SideFilters.{filterIn, filteredBy};
 
 // Both filters, each in its band, the states carried from the first to the second. The `requires` are
 // what the encode call has just checked of the frame, that the bands of the row lie in the lines, and
@@ -22,12 +23,37 @@ pub fn two_encoded(row: Row, side: SideData, lines: &mut [f32])
     requires { ⌜ Reported side ⌝ }
     ensures { λ _. ⌜ now (lines .exit) ≡ filteredBy side row (now (lines .entry)) ⌝ }
 {
-    let first: Quantized = side.first;
-    let second: Quantized = side.second;
-    let q = first.coefficients;
-    let states = filter_encoded(row.first, q, first.order, [0.0; 8], lines);
-    let p = second.coefficients;
-    filter_encoded(row.second, p, second.order, states, lines);
+    let states = first_encoded(row.first, side.first, lines);
+    second_encoded(row.second, side.second, states, lines);
+}
+
+// The first filter, from states of 0. Where it has order 0 nothing is done, and the same goes for the
+// second. Each of the two functions has its own test and call: so the compiler keeps the lattice's loop in
+// one function and the tests outside of it, and a frame without a filter makes no call (docs/DECISIONS.md,
+// "A filter of order 0 makes no call").
+fn first_encoded(band: Band, filter: Quantized, lines: &mut [f32]) -> [f32; 8]
+    requires { ⌜ Fits band (length (now lines)) ⌝ }
+    requires { ⌜ filter .order ≤ 8 ⌝ }
+    ensures { λ r. ⌜ FilteredIn lineEncoded band (filterIn filter) atRest (now (lines .entry)) r (now (lines .exit)) ⌝ }
+{
+    if filter.order == 0 {
+        return [0.0; 8];
+    }
+    let q = filter.coefficients;
+    filter_encoded(band, q, filter.order, [0.0; 8], lines)
+}
+
+// The second filter, from the states that the first leaves.
+fn second_encoded(band: Band, filter: Quantized, states: [f32; 8], lines: &mut [f32]) -> [f32; 8]
+    requires { ⌜ Fits band (length (now lines)) ⌝ }
+    requires { ⌜ filter .order ≤ 8 ⌝ }
+    ensures { λ r. ⌜ FilteredIn lineEncoded band (filterIn filter) states (now (lines .entry)) r (now (lines .exit)) ⌝ }
+{
+    if filter.order == 0 {
+        return states;
+    }
+    let q = filter.coefficients;
+    filter_encoded(band, q, filter.order, states, lines)
 }
 
 // One filter, in its band of the whole spectrum. It answers the states after it.
@@ -42,9 +68,6 @@ fn filter_encoded(
     requires { ⌜ order ≤ 8 ⌝ }
     ensures { λ r. ⌜ FilteredIn lineEncoded band (filterWith q order) states (now (lines .entry)) r (now (lines .exit)) ⌝ }
 {
-    if order == 0 {
-        return states;
-    }
     let start = band.start;
     let stop = band.stop;
     band_encoded(q, order, states, &mut lines[start..stop])

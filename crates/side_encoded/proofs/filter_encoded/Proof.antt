@@ -2,21 +2,14 @@
 use mathlib.Core.Path.{refl}
 use borrow.Author.Needs.{needs}
 use Rattle.lattice_encoder.specs.EncoderLattice.{lineEncoded}
-use Rattle.lattice_encoder.proofs.Idle.{encoder-idle}
 use Rattle.lattice_rows.specs.Filters.{filterWith}
-use Rattle.lattice_rows.proofs.Filters.{idle-filter, lent-back}
+use Rattle.lattice_rows.proofs.Filters.{lent-back}
 use Rattle.side_encoded.proofs.filter_encoded.Statement.{statement}
 use Rattle.side_encoded.proofs.filter_encoded.Tie as tie
 
 returns : tie.Need-returns
 returns c =
-    let start = c .before .before in
-    let g = start .args in
-    idle-filter lineEncoded encoder-idle (g .band) (filterWith (g .q) (g .order)) (c .if1 .taken) (g .states) (g .lines .now) (start .pre .0 .order)
-
-returns-2 : tie.Need-returns-2
-returns-2 c =
-    let start = c .before .before .before .before .before .before in
+    let start = c .before .before .before .before .before in
     let g = start .args in
     lent-back lineEncoded (g .band) (filterWith (g .q) (g .order)) (start .pre .1) (g .q) (g .states) (g .lines .now) _ _ refl (start .pre .0 .order)
     (c .before .before .band-encoded .ensures)
@@ -25,11 +18,10 @@ pub filter-encoded-spec : {M : Type 1} → statement M
 filter-encoded-spec =
     tie.close
     (tie.spec
-    returns
     (λ c. search needs)
     (λ c. search needs)
     (λ c. search needs)
     (λ c. search needs)
     (λ c κs. search needs)
     (λ c. search needs)
-    returns-2)
+    returns)

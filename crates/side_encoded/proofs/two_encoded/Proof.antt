@@ -10,9 +10,9 @@ returns : tie.Need-returns
 unfolding filteredBy
 returns c =
     let second = c .before .before in
-    let first = second .before .before .before .before .before in
-    let g = first .before .before .before .before .before .before .args in
-    two-filtered lineEncoded (g .row) (g .lines .now) _ _ _ _ _ _ (first .filter-encoded .ensures) (second .filter-encoded2 .ensures)
+    let first = second .before .before .before .before in
+    let g = first .before .before .before .args in
+    two-filtered lineEncoded (g .row) (g .lines .now) _ _ _ _ _ _ (first .first-encoded .ensures) (second .second-encoded .ensures)
 
 pub two-encoded-spec : {M : Type 1} → statement M
 two-encoded-spec = tie.close (tie.spec (λ c κs. search needs) (λ c κs. search needs) (λ c. search needs) returns)
