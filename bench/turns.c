@@ -20,7 +20,8 @@
  * The fourth form times tns_cost and tns_cost_2048ths of one build by turns, in the columns of the first form.
  *
  * Status 0, or 1 if the words are wrong, a build cannot be loaded, or the builds do not give the same: bits of the cost
- * calls, and answers, lines, side data and coefficients of the encoder calls. The second form compares nothing.
+ * calls, and answers, lines, side data, coefficients and gains of the encoder calls; gains only where both builds give
+ * them, which one before C-18 does not. The second form compares nothing.
  *
  * Assumes Linux, x86-64 and an idle machine.
  */
@@ -36,12 +37,12 @@ enum { BUILDS = 16, SIDES = 256, FEW = 12, MANY = 1024, ROUNDS = 20000, LINES = 
 
 typedef tns_answer cost_call(uint8_t, uint8_t, const uint8_t *, size_t, const uint8_t *, size_t);
 typedef tns_answer parts_call(uint8_t, uint8_t, const uint8_t *, size_t, const uint8_t *, size_t, uint32_t[2]);
-typedef tns_answer encode_call(uint8_t, uint8_t, uint64_t, bool, float *, size_t, uint8_t *, float *);
+typedef tns_answer encode_call(uint8_t, uint8_t, uint64_t, bool, float *, size_t, uint8_t *, float *, float *, uint8_t *);
 
 static struct {
     cost_call *cost;
     parts_call *parts; /* or null: a build before C-15 has none */
-    encode_call *encode;
+    encode_call *encode; /* a build before C-18 never looks at the last two arguments, which lie on the stack */
 } builds[BUILDS];
 
 static struct {
@@ -56,6 +57,12 @@ static struct left {
     uint8_t side[20];
     tns_answer answer;
 } left[BUILDS][MANY];
+
+/* The gains beside it. A damping of 0 is no call's: it stays where a build before C-18 writes none. */
+static struct gained {
+    float gains[4];
+    uint8_t on[2];
+} gained[BUILDS][MANY];
 
 static uint32_t state = 1;
 
@@ -190,7 +197,8 @@ static void time_encode(uint8_t duration, uint8_t bandwidth, const char *input, 
                 given[f][n] = line;
             }
             memcpy(its->lines, given[f], sizeof given[f]);
-            builds[0].encode(duration, bandwidth, 320, false, its->lines, length, its->side, its->coefficients);
+            builds[0].encode(duration, bandwidth, 320, false, its->lines, length, its->side, its->coefficients,
+                             gained[0][f].gains, gained[0][f].on);
         } while (!its->side[2] || (its->side[1] == 2 && !its->side[3]));
         if (silent) memset(given[f], 0, sizeof given[f]);
     }
@@ -202,13 +210,17 @@ static void time_encode(uint8_t duration, uint8_t bandwidth, const char *input, 
             for (int f = 0; f < frames; f++) memcpy(its[f].lines, given[f], sizeof given[f]);
             double began = now();
             for (int f = 0; f < frames; f++)
-                its[f].answer = builds[build].encode(duration, bandwidth, 320, flag, its[f].lines, length, its[f].side, its[f].coefficients);
+                its[f].answer = builds[build].encode(duration, bandwidth, 320, flag, its[f].lines, length, its[f].side,
+                                                     its[f].coefficients, gained[build][f].gains, gained[build][f].on);
             double taken = (now() - began) / frames;
             if (taken < best[build]) best[build] = taken;
         }
     }
-    for (int build = 1; build < count; build++)
+    for (int build = 1; build < count; build++) {
+        bool both = gained[0][0].gains[1] != 0 && gained[build][0].gains[1] != 0;
         if (memcmp(left[0], left[build], (size_t)frames * sizeof left[0][0])) fail("encoder results differ");
+        if (both && memcmp(gained[0], gained[build], (size_t)frames * sizeof gained[0][0])) fail("gains differ");
+    }
 }
 
 static void time_rows(void)

@@ -8,8 +8,9 @@
  * 320 lines (bandwidth 3, two filters). The coefficients are worked out by docs/RULES.md, "Analysis", in its order of
  * f32 operations, for 320 bits. Those of the filters that are on are written, eight f32 each.
  *
- * LIBRARY.so has `tns_encode`, which encodes each frame. The program ends with status 1 if one of the encoder's indices
- * is not that of the coefficient here, by the thresholds one after the other, or not 8 where the filter is off here.
+ * LIBRARY.so has `tns_encode`, which encodes each frame. The program ends with status 1 if the encoder tells that a
+ * filter is on which is off here, or the other way round, or if one of its indices is not that of the coefficient here,
+ * by the thresholds one after the other, or not 8 where the filter is off.
  * Standard error gets how many frames and filters there were.
  *
  * Assumes Linux, x86-64, and a compiler that fuses no products and sums (-ffp-contract=off).
@@ -24,7 +25,7 @@
 
 enum { RATE = 32000, SECONDS = 40, LINES = 320, MADE = RATE * SECONDS };
 
-typedef tns_answer encode_call(uint8_t, uint8_t, uint64_t, bool, float *, size_t, uint8_t *, float *);
+typedef tns_answer encode_call(uint8_t, uint8_t, uint64_t, bool, float *, size_t, uint8_t *, float *, float *, uint8_t *);
 
 static const double pi = 3.14159265358979323846;
 
@@ -209,14 +210,15 @@ int main(int count, char **words)
         make_voice(samples);
     }
     for (size_t start = 0; start + 2 * LINES <= length; start += LINES) {
-        float lines[LINES], filtered[LINES], coefficients[8], quantized[16];
-        uint8_t side[20];
+        float lines[LINES], filtered[LINES], coefficients[8], quantized[16], gains[4];
+        uint8_t side[20], told_on[2];
         mdct(samples + start, lines);
         memcpy(filtered, lines, sizeof lines);
-        if (encode(0, 3, 320, false, filtered, LINES, side, quantized).refusal) fail("a frame is refused");
+        if (encode(0, 3, 320, false, filtered, LINES, side, quantized, gains, told_on).refusal) fail("a frame is refused");
         frames++;
         for (int f = 0; f < 2; f++) {
             bool on = reflected(lines, cuts[f], coefficients);
+            if (told_on[f] != on) fail("a filter is not on where the encoder tells so");
             for (int k = 0; k < 8; k++)
                 if (side[4 + 8 * f + k] != (on ? walked(coefficients[k]) : 8)) fail("an index is not the encoder's");
             if (on && fwrite(coefficients, sizeof coefficients, 1, stdout) != 1) fail("cannot write");

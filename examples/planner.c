@@ -21,14 +21,15 @@ static void make_lines(int f, float lines[LINES])
 
 int main(void)
 {
-    float lines[LINES], coefficients[16];
-    uint8_t side[20]; /* weighting, filter count, two orders, sixteen indices */
+    float lines[LINES], coefficients[16], gains[4];
+    uint8_t side[20], on[2]; /* side: weighting, filter count, two orders, sixteen indices */
     uint64_t filters = 0, rounded = 0, parts_sum = 0;
     int wrong = 0;
     for (int f = 0; f < FRAMES; f++) {
         uint32_t parts[2] = {0, 0};
         make_lines(f, lines);
-        tns_answer e = tns_encode(DURATION, BANDWIDTH, BITS, false, lines, LINES, side, coefficients);
+        tns_answer e = tns_encode(DURATION, BANDWIDTH, BITS, false, lines, LINES, side, coefficients,
+                                  gains, on);
         tns_answer a = tns_cost_2048ths(side[0], side[1], side + 2, 2, side + 4, 16, parts);
         uint32_t bits = 0;
         for (int i = 0; i < side[1]; i++) {

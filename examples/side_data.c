@@ -20,13 +20,14 @@ static tns_answer cost(const uint8_t side[20])
 
 int main(void)
 {
-    float lines[LINES], coefficients[16];
-    uint8_t side[20];
+    float lines[LINES], coefficients[16], gains[4];
+    uint8_t side[20], on[2];
     lines[0] = 1000;
     for (int i = 1; i < LINES; i++)
         lines[i] = 0.95f * lines[i - 1];
 
-    tns_answer a = tns_encode(DURATION, BANDWIDTH, BITS, false, lines, LINES, side, coefficients);
+    tns_answer a = tns_encode(DURATION, BANDWIDTH, BITS, false, lines, LINES, side, coefficients, gains,
+                              on);
     print_answer("encode", a);
     printf("weighting %d, filters %d, orders %d and %d\n", side[0], side[1], side[2], side[3]);
     /* Index 8 means coefficient 0; a higher index means a positive one, a lower index a negative one. */

@@ -6,6 +6,10 @@
  * was. Calls share no state, so several threads may call at the same time. docs/CONTRACTS.md has the
  * promises, docs/RULES.md the rules.
  *
+ * Changed since the version before: tns_encode has two more parameters at its end, gains and on. Nothing
+ * else changed. Compile every file that calls tns_encode again: an object file made with the older header
+ * still links, but passes two pointers too few, and the call would write to wherever they seem to point.
+ *
  * Three things C cannot check, so the caller must:
  *
  * - Each pointer is valid for its length and aligned for its type. It is not null, even at length 0.
@@ -18,8 +22,8 @@
  * each thread inherits them from the thread that starts it. Loading a shared library that gcc 12 or older
  * linked so sets them too. Audio frameworks often set them on purpose. Then every call that computes with
  * floats can give other results without any error: tns_decode and tns_decode_restart other lines,
- * tns_decode_save other lines and states, tns_encode other lines, side data, coefficients and bits. An
- * exception that is not masked can end the process. Put the guard around these four calls:
+ * tns_decode_save other lines and states, tns_encode other lines, side data, coefficients, gains and
+ * bits. An exception that is not masked can end the process. Put the guard around these four calls:
  *
  *     uint32_t callers = tns_float_enter();
  *     tns_answer answer = tns_decode(...);
@@ -107,10 +111,27 @@ static inline void tns_float_leave(uint32_t callers)
  * off. Writes the side data (weighting, filter count, two orders, sixteen indices: 20 bytes) and the
  * sixteen quantized reflection coefficients, one for each index. Refusals 1 to 3.
  *
+ * gains and on show why a filter is on or off. gains gets gain and damping of the first filter, then of
+ * the second; on gets 1 for a filter that is on, else 0. A filter is on exactly if its gain is over 1.5 and
+ * near_nyquist is false. To find out why a filter is off, ask in this order:
+ *
+ *     1. the second filter, and the filter count is 1 (bandwidths 0 to 2): the row has no band for it.
+ *        Then the gain is 0 and the damping 1.
+ *     2. the gain is not a number, for instance because a line of the band is NaN or infinite, or so
+ *        large that its square is.
+ *     3. the gain is not over 1.5.
+ *     4. else it is near_nyquist.
+ *
+ * The damping is below 1 only if the filter is on, the weighting is 1 and the gain is below 2: it falls
+ * from 1 at gain 2 to 0.85 at gain 1.5. A filter that is off has order 0. One that is on can have order 0
+ * too, if all its coefficients are quantized to 0. A refused call leaves gains and on as they were.
+ * examples/gains.c prints gains with the reasons. docs/RULES.md, "Gains (C-18)".
+ *
  * If every line is finite and at most 2^m in absolute value, for a whole m from -126 to 119, then each
  * filtered line is within 2^(m-13) of what the same filter gives without rounding. */
 tns_answer tns_encode(uint8_t duration, uint8_t bandwidth, uint64_t bits, bool near_nyquist,
-                      float *lines, size_t lines_len, uint8_t side[20], float coefficients[16]);
+                      float *lines, size_t lines_len, uint8_t side[20], float coefficients[16],
+                      float gains[4], uint8_t on[2]);
 
 /* Decodes a spectrum in place. An index means the coefficient that tns_encode writes for it: index 8 is
  * 0, index 0 is -0.99573416. Refusals 1 to 7. */

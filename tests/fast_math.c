@@ -44,8 +44,8 @@ static float saved[SPECTRA][8]; /* the states before line N, for a restart */
 /* What a call leaves, as whole numbers. */
 typedef struct {
     uint16_t answer[4];
-    uint8_t side[20];
-    uint32_t coefficients[16], states[8], lines[LINES];
+    uint8_t side[20], on[2];
+    uint32_t coefficients[16], gains[4], states[8], lines[LINES];
 } outcome;
 
 /* The outcome of each call in the default environment, and the flags that it raises there. */
@@ -75,11 +75,12 @@ static void set_word(uint32_t word)
     __asm__ __volatile__("ldmxcsr %0" : : "m"(word) : "memory");
 }
 
-static tns_answer plain(int which, float *lines, float *output, uint8_t *side, float *coefficients, float *states)
+static tns_answer plain(int which, float *lines, float *output, outcome *left, float *coefficients, float *gains,
+                        float *states)
 {
     switch (which) {
     case ENCODE:
-        return tns_encode(0, 1, SIZE, false, lines, LINES, side, coefficients);
+        return tns_encode(0, 1, SIZE, false, lines, LINES, left->side, coefficients, gains, left->on);
     case DECODE:
         return tns_decode(0, 1, 1, orders, 2, indices, 16, lines, LINES);
     case SAVE:
@@ -92,21 +93,22 @@ static tns_answer plain(int which, float *lines, float *output, uint8_t *side, f
 /* Makes a call with this word set. Gives the word afterwards and sets the default. */
 static uint32_t make_call(int which, int spectrum, uint32_t word, int is_guarded, outcome *left)
 {
-    float lines[LINES], output[LINES], coefficients[16], states[8];
+    float lines[LINES], output[LINES], coefficients[16], gains[4], states[8];
     tns_answer a;
     memset(left, 0, sizeof *left);
     memset(output, 0, sizeof output);
     memset(coefficients, 0, sizeof coefficients);
+    memset(gains, 0, sizeof gains);
     memcpy(lines, spectra[spectrum], sizeof lines);
     memcpy(states, saved[spectrum], sizeof states);
 
     set_word(word);
     if (is_guarded) {
         uint32_t callers = tns_float_enter();
-        a = plain(which, lines, output, left->side, coefficients, states);
+        a = plain(which, lines, output, left, coefficients, gains, states);
         tns_float_leave(callers);
     } else {
-        a = plain(which, lines, output, left->side, coefficients, states);
+        a = plain(which, lines, output, left, coefficients, gains, states);
     }
     uint32_t after = word_now();
     set_word(DEFAULT);
@@ -114,6 +116,7 @@ static uint32_t make_call(int which, int spectrum, uint32_t word, int is_guarded
     const uint16_t answer[4] = {a.refusal, a.place, a.found, a.bits};
     memcpy(left->answer, answer, sizeof answer);
     memcpy(left->coefficients, coefficients, sizeof coefficients);
+    memcpy(left->gains, gains, sizeof gains);
     memcpy(left->states, states, sizeof states);
     memcpy(left->lines, which == ENCODE || which == DECODE ? lines : output, sizeof lines);
     return after;
@@ -163,7 +166,7 @@ static void check_nested(uint32_t word)
     set_word(word);
     uint32_t outer = tns_float_enter();
     uint32_t inner = tns_float_enter();
-    plain(DECODE, lines, NULL, NULL, NULL, NULL);
+    plain(DECODE, lines, NULL, NULL, NULL, NULL, NULL);
     tns_float_leave(inner);
     uint32_t between = word_now();
     tns_float_leave(outer);

@@ -38,6 +38,8 @@ extern "C" {
         lines_len: usize,
         side: *mut [u8; 20],
         coefficients: *mut [f32; 16],
+        gains: *mut [f32; 4],
+        on: *mut [u8; 2],
     ) -> Answer;
     pub fn tns_decode(
         duration: u8,

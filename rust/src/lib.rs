@@ -19,6 +19,9 @@
 //! # Ok::<(), Refusal>(())
 //! ```
 //!
+//! To tune a voice, read each filter's gain from [`Encoded::gains`], and why it is off from
+//! [`Encoded::why_off`].
+//!
 //! To plan a rate over many frames, [`cost_exact`] gives what each filter costs before it is rounded.
 //!
 //! If the upper part of a frame changes, [`decode_restart`] decodes only that part, from the states that
@@ -51,11 +54,13 @@ pub mod decoder;
 pub mod encoder;
 mod exports;
 mod float;
+mod gains;
 pub mod narration;
 mod refusal;
 mod restart;
 mod sys;
 
+pub use gains::{FilterGain, WhyOff};
 pub use refusal::Refusal;
 pub use restart::{decode_restart, decode_save, Saved};
 
@@ -105,6 +110,8 @@ pub struct Encoded {
     pub side: SideData,
     /// The quantized reflection coefficients, one for each index.
     pub coefficients: [f32; 16],
+    /// Gain, damping and on or off of each filter. [`Encoded::why_off`] says why a filter is off.
+    pub gains: [FilterGain; 2],
 }
 
 /// The result of [`cost_exact`].

@@ -8,7 +8,7 @@ use crate::exports::{
     tns_decode_restart, tns_decode_save, tns_encode, Answer, BlockAnswer, RescueAnswer,
 };
 use crate::narration::BlockRefusal;
-use crate::{float, Encoded, ExactCost, Refusal, SideData};
+use crate::{float, Encoded, ExactCost, FilterGain, Refusal, SideData};
 
 impl Answer {
     #[inline]
@@ -54,7 +54,9 @@ pub fn encode(
     lines: &mut [f32],
 ) -> Result<Encoded, Refusal> {
     let (mut bytes, mut coefficients) = ([0; 20], [0.0; 16]);
+    let (mut gains, mut on) = ([0.0; 4], [0; 2]);
     let (to_bytes, to_coefficients) = (&mut bytes, &mut coefficients);
+    let (to_gains, to_on) = (&mut gains, &mut on);
     // Sound: each pointer comes from a borrow, is valid for its length, and no two overlap.
     let answer = float::in_default(move || unsafe {
         tns_encode(
@@ -66,6 +68,8 @@ pub fn encode(
             lines.len(),
             to_bytes,
             to_coefficients,
+            to_gains,
+            to_on,
         )
     });
     answer.accepted()?;
@@ -80,7 +84,19 @@ pub fn encode(
         bits: answer.bits,
         side,
         coefficients,
+        gains: [
+            of_filter(gains[0], gains[1], on[0]),
+            of_filter(gains[2], gains[3], on[1]),
+        ],
     })
+}
+
+fn of_filter(gain: f32, damping: f32, on: u8) -> FilterGain {
+    FilterGain {
+        gain,
+        damping,
+        on: on != 0,
+    }
 }
 
 #[inline]

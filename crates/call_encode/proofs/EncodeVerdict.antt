@@ -17,7 +17,9 @@ use Rattle.side_data.specs.Side.{bitsOf, noSide}
 use Rattle.side_data.specs.declared.SideData.{SideData}
 use Rattle.side_encoded.specs.SideFilters.{filteredBy}
 use Rattle.side_near.specs.NearExact.{NearExact}
-use Rattle.shape_frame.specs.FrameSide.{sideOf}
+use Rattle.shape_gain.specs.Gains.{noGains}
+use Rattle.shape_gain.specs.declared.Gains.{Gains}
+use Rattle.shape_frame.specs.FrameSide.{sideOf, gainsOf}
 use Rattle.call_encode.specs.Encoder.{weightingIn, encodeVerdict, encodeSays, Encodes}
 use Rattle.call_encode.specs.declared.Encoded.{Encoded}
 
@@ -39,19 +41,20 @@ module _ (duration bandwidth nbits : ℕ) (flag : Bool) (lines : List Float) whe
 few : (said verdict : Verdict ℕ) → said ≡ verdict → bitsIn itsBits verdict ≤ 168 → bitsIn itsBits said ≤ 168
 few said verdict e h = subst (λ (v : Verdict ℕ). bitsIn itsBits v ≤ 168) (sym e) h
 
--- a refused frame: the refusal, no side data, the lines that came in
-pub encodes-refused : (why : Fault) (row : Row) (lines : List Float) (result : Encoded) → encodeSays (result .answer) ≡ refused why → result .side ≡ noSide
-    → Encodes (refused why) row lines lines result
-encodes-refused why row lines result said none =
-    record { answer = said; side = none; lines = refl; near = tt; few-bits = few _ (refused why) said (omega arith) }
+-- a refused frame: the refusal, no side data, no gains, the lines that came in
+pub encodes-refused : (why : Fault) (analysed : Gains) (row : Row) (lines : List Float) (result : Encoded) → encodeSays (result .answer) ≡ refused why
+    → result .side ≡ noSide → result .gains ≡ noGains → Encodes (refused why) analysed row lines lines result
+encodes-refused why analysed row lines result said no-side no-gains =
+    record { answer = said; side = no-side; gains = no-gains; lines = refl; near = tt; few-bits = few _ (refused why) said (omega arith) }
 
--- an accepted frame, whose row and weighting are the call's: the bits and the side data of its filters, its bands filtered, near the exact lines
+-- an accepted frame, whose row and weighting are the call's: the bits, the side data and the gains of its filters, its bands filtered, near the exact
+-- lines
 pub encodes-accepted : (row own : Row) (flag : Bool) (w weighting : ℕ) (found left : List Float) (result : Encoded) → row ≡ own → w ≡ weighting
     → encodeSays (result .answer) ≡ accepted (bitsOf (sideOf row found flag w)) → result .side ≡ sideOf row found flag w
-    → left ≡ filteredBy (sideOf row found flag w) row found
+    → result .gains ≡ gainsOf row found flag w → left ≡ filteredBy (sideOf row found flag w) row found
     → NearExact own (sideOf own found flag weighting) found (filteredBy (sideOf own found flag weighting) own found) → bitsOf (sideOf own found flag weighting) ≤ 168
-    → Encodes (accepted (sideOf own found flag weighting)) own found left result
-encodes-accepted row own flag w weighting found left result same-row same-weighting said its filtered near bound =
+    → Encodes (accepted (sideOf own found flag weighting)) (gainsOf own found flag weighting) own found left result
+encodes-accepted row own flag w weighting found left result same-row same-weighting said its analysed filtered near bound =
     let s = sideOf own found flag weighting in
     let same : sideOf row found flag w ≡ s = rw (same-row, same-weighting) in
     let answer = said ∙ ap (λ (s : SideData). accepted (bitsOf s)) same in
@@ -59,6 +62,7 @@ encodes-accepted row own flag w weighting found left result same-row same-weight
     record {
       answer = answer;
       side = its ∙ same;
+      gains = analysed ∙ rw (same-row, same-weighting);
       lines = lines;
       near = subst (NearExact own s found) (sym lines) near;
       few-bits = few _ (accepted (bitsOf s)) answer bound;

@@ -9,7 +9,7 @@ use lib.Ieee.{Float, nan}
 use lib.ListN.{length, getD}
 use lib.Seq.{ext-getD}
 use Rattle.law_lists.specs.Places.{part}
-use Rattle.check_verdicts.specs.Verdicts.{Verdict, accepted}
+use Rattle.check_verdicts.specs.Verdicts.{Verdict, accepted, refused}
 use Rattle.row_durations.specs.Durations.{numbersOf, durationOf}
 use Rattle.row_bands.specs.Bands.{rowOf, bandOf, lastStop, inside}
 use Rattle.row_bands.specs.declared.Band.{Band}
@@ -24,8 +24,9 @@ use Rattle.shape_lags.specs.Autocorrelation.{autocorrelation}
 use Rattle.shape_filter.specs.Analysis.{filterRecord, reflectionsOf}
 use Rattle.side_data.specs.declared.SideData.{SideData}
 use Rattle.side_encoded.specs.SideFilters.{filtersIn, filteredBy}
-use Rattle.shape_frame.specs.FrameSide.{filterOf, secondOf, sideOf}
-use Rattle.call_encode.specs.Encoder.{weightingIn, encodeVerdict, spectrumEncoded}
+use Rattle.shape_gain.specs.declared.Gains.{Gains}
+use Rattle.shape_frame.specs.FrameSide.{filterOf, secondOf, sideOf, gainsOf}
+use Rattle.call_encode.specs.Encoder.{weightingIn, encodeVerdict, gainsFound, gainsIn, spectrumEncoded}
 
 -- ---- the analysis of a band depends on its own lines alone
 
@@ -54,6 +55,10 @@ module _ (b : Band) (xs ys : List Float) (long : length xs ≡ length ys) (cut :
         same-part (b .«second_cut») (b .stop) (omega (arith, cut .lowest, cut .middle)) (omega (arith, cut .highest)) (omega arith),
       )
 
+  same-record : (flag : Bool) (weighting : ℕ) → filterRecord b xs flag weighting ≡ filterRecord b ys flag weighting
+  unfolding filterRecord
+  same-record flag weighting = rw same-autocorrelation
+
   same-filter : (flag : Bool) (weighting : ℕ) → filterOf b xs flag weighting ≡ filterOf b ys flag weighting
   unfolding filterOf reflectionsOf filterRecord
   same-filter flag weighting = rw same-autocorrelation
@@ -75,6 +80,9 @@ module _ (duration bandwidth nbits : ℕ) (flag : Bool) where
 
   abbrev side : List Float → SideData
   side lines = sideOf row lines flag (weightingIn duration nbits)
+
+  abbrev gains : List Float → Gains
+  gains lines = gainsFound duration bandwidth nbits flag lines
 
   sound : (lines : List Float) (s : SideData) → verdict lines ≡ accepted s → SoundRow row (length lines)
   unfolding encodeVerdict
@@ -99,8 +107,8 @@ module _ (duration bandwidth nbits : ℕ) (flag : Bool) where
   unfolding spectrumEncoded filteredBy
   late-lines-stay lines i h = calls.late-lines-stay lineEncoded (durationOf duration) bandwidth verdict filtersIn 2 counted sound lines i h
 
-  -- And they affect nothing: of two spectra of one length that agree inside the bands, a call gives the same answer and side data, and leaves lines
-  -- that agree inside the bands.
+  -- And they affect nothing: of two spectra of one length that agree inside the bands, a call gives the same answer, side data and gains, and leaves
+  -- lines that agree inside the bands.
   module _ (xs ys : List Float) (long : length xs ≡ length ys) (agree : (k : ℕ) → k < 2 → inside (bandOf row k) xs ≡ inside (bandOf row k) ys) where
     same-side : lastStop row ≤ length xs → side xs ≡ side ys
     unfolding sideOf secondOf
@@ -115,6 +123,24 @@ module _ (duration bandwidth nbits : ℕ) (flag : Bool) where
     pub same-verdict : verdict xs ≡ verdict ys
     unfolding encodeVerdict
     same-verdict = ap (λ (n : ℕ). frameChecks duration bandwidth n (accepted (side xs))) long ∙ same-result duration bandwidth (length ys) (side xs) (side ys) (λ enough. same-side (omega arith))
+
+    gains-agree : SoundRow row (length ys) → gains xs ≡ gains ys
+    unfolding gainsOf
+    gains-agree fits =
+        let cut = row-cut (durationOf duration) bandwidth in
+        let w = weightingIn duration nbits in
+        rw (
+          same-record (row .first) xs ys long (cut .0) (omega (arith, long, fits .first-fits .end)) (agree 0 (omega arith)) flag w,
+          same-record (row .second) xs ys long (cut .1) (omega (arith, long, fits .second-fits .end)) (agree 1 (omega arith)) flag w,
+        )
+
+    -- the gains of an accepted call; a refused one has none
+    pub same-gains : gainsIn (verdict xs) (gains xs) ≡ gainsIn (verdict ys) (gains ys)
+    same-gains = rw same-verdict (either (verdict ys) refl)
+      where
+        either : (v : Verdict SideData) → verdict ys ≡ v → gainsIn v (gains xs) ≡ gainsIn v (gains ys)
+        either (accepted s) e = gains-agree (sound ys s e)
+        either (refused why) e = refl
 
     pub same-lines : (k : ℕ) → k < 2 → inside (bandOf row k) (after xs) ≡ inside (bandOf row k) (after ys)
     unfolding spectrumEncoded filteredBy

@@ -10,6 +10,7 @@ use Rattle.cost_call.specs.Cost.{eachRounded}
 use Rattle.side_data.specs.Side.{bitsOf}
 use Rattle.side_data.specs.declared.SideData.{SideData}
 use Rattle.side_data.proofs.Rounded.{costsIn, side-rounded}
+use Rattle.shape_gain.specs.declared.Gains.{Gains}
 use Rattle.call_encode.specs.Encoder.{bitsVerdict, sideIn, encodeSays, Encodes}
 use Rattle.call_encode.specs.declared.Encoded.{Encoded}
 
@@ -17,7 +18,7 @@ reported : (verdict : Verdict SideData) (bits : ℕ) → accepted bits ≡ bitsV
 reported (accepted side) bits e = let same : bits ≡ bitsOf side = cc in same ∙ side-rounded side
 reported (refused fault) bits e = not-accepted (sym e)
 
-pub encode-rounded : (verdict : Verdict SideData) (row : Row) (found left : List Float) (result : Encoded) → Encodes verdict row found left result
-    → (bits : ℕ) → accepted bits ≡ encodeSays (result .answer) → bits ≡ eachRounded (costsIn (result .side))
-encode-rounded verdict row found left result promise bits e =
+pub encode-rounded : (verdict : Verdict SideData) (analysed : Gains) (row : Row) (found left : List Float) (result : Encoded)
+    → Encodes verdict analysed row found left result → (bits : ℕ) → accepted bits ≡ encodeSays (result .answer) → bits ≡ eachRounded (costsIn (result .side))
+encode-rounded verdict analysed row found left result promise bits e =
     reported verdict bits (e ∙ promise .answer) ∙ ap (λ (side : SideData). eachRounded (costsIn side)) (sym (promise .side))

@@ -1,5 +1,5 @@
--- The encode call, in the order in which a frame goes through it: its checks, its weighting and its side data, the lines through the filters of
--- these, and the answer.
+-- The encode call, in the order in which a frame goes through it: its checks, its weighting, its side data and gains, the lines through the filters of
+-- the side data, and the answer.
 use mathlib.Core.Path.{_≡_}
 use mathlib.Core.Bool.{Bool}
 use mathlib.Core.List.{List}
@@ -17,7 +17,9 @@ use Rattle.side_data.specs.Side.{bitsOf, noSide}
 use Rattle.side_data.specs.declared.SideData.{SideData}
 use Rattle.side_encoded.specs.SideFilters.{filteredBy}
 use Rattle.side_near.specs.NearExact.{NearExact}
-use Rattle.shape_frame.specs.FrameSide.{sideOf}
+use Rattle.shape_gain.specs.Gains.{noGains}
+use Rattle.shape_gain.specs.declared.Gains.{Gains}
+use Rattle.shape_frame.specs.FrameSide.{sideOf, gainsOf}
 use Rattle.call_encode.specs.declared.Encoded.{Encoded}
 use Rattle.call_encode.specs.declared.EncodeAnswer.{EncodeAnswer}
 use Rattle.call_encode.specs.declared.EncodeAnswer.the-variants.{Bits, Refused}
@@ -36,6 +38,13 @@ encodeVerdict duration bandwidth nbits flag lines =
 abbrev pub sideIn : Verdict SideData → SideData
 sideIn verdict = unlessRefused verdict (λ side. side) noSide
 
+-- the gain, damping and on/off answer of both filters that the analysis of the call's lines gives; a refusal gives no other results
+abbrev pub gainsFound : ℕ → ℕ → ℕ → Bool → List Float → Gains
+gainsFound duration bandwidth nbits flag lines = gainsOf (rowOf (durationOf duration) bandwidth) lines flag (weightingIn duration nbits)
+
+abbrev pub gainsIn : Verdict SideData → Gains → Gains
+gainsIn verdict analysed = unlessRefused verdict (λ side. analysed) noGains
+
 -- the lines through both filters of the side data, each in its band of the row; on a refusal the lines that came in
 abbrev pub linesAfter : Verdict SideData → Row → List Float → List Float
 linesAfter verdict row lines = unlessRefused verdict (λ side. filteredBy side row lines) lines
@@ -51,11 +60,12 @@ abbrev pub encodeSays : EncodeAnswer → Verdict ℕ
 encodeSays (Bits bits) = accepted bits
 encodeSays (Refused why) = refused (says why)
 
--- What the call promises, by the verdict on its frame: the answer, the side data beside it, the lines that it leaves of those that it finds in the
--- bands of the row, demand 3 of an accepted call, and that no answer has more than 168 bits.
-pub record Encodes (verdict : Verdict SideData) (row : Row) (found left : List Float) (result : Encoded) : Type 0 where
+-- What the call promises, by the verdict on its frame and the gains that its analysis gives: the answer, the side data and the gains beside it, the
+-- lines that it leaves of those that it finds in the bands of the row, demand 3 of an accepted call, and that no answer has more than 168 bits.
+pub record Encodes (verdict : Verdict SideData) (analysed : Gains) (row : Row) (found left : List Float) (result : Encoded) : Type 0 where
   pub answer : encodeSays (result .answer) ≡ bitsVerdict verdict
   pub side : result .side ≡ sideIn verdict
+  pub gains : result .gains ≡ gainsIn verdict analysed
   pub lines : left ≡ linesAfter verdict row found
   pub near : IfAccepted verdict (NearExact row (sideIn verdict) found left)
   pub few-bits : bitsIn itsBits (encodeSays (result .answer)) ≤ 168
@@ -64,10 +74,11 @@ pub record Encodes (verdict : Verdict SideData) (row : Row) (found left : List F
 
 -- what a refused call gives
 abbrev pub refusedWith : Refusal → Encoded
-refusedWith why = record { answer = Refused why; side = noSide }
+refusedWith why = record { answer = Refused why; side = noSide; gains = noGains }
 
--- what becomes of a sound frame of some side data
-pub record RowEncodes (its : SideData) (row : Row) (found left : List Float) (result : Encoded) : Type 0 where
+-- what becomes of a sound frame of some side data and gains
+pub record RowEncodes (its : SideData) (analysed : Gains) (row : Row) (found left : List Float) (result : Encoded) : Type 0 where
   pub answer : encodeSays (result .answer) ≡ accepted (bitsOf its)
   pub side : result .side ≡ its
+  pub gains : result .gains ≡ analysed
   pub lines : left ≡ filteredBy its row found

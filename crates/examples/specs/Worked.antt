@@ -1,6 +1,6 @@
 -- Demand 3 worked on a frame, computed by the checker from the definitions: a call of the oracle's list (7.5 ms, bandwidth 3, 2953 bits, 240
--- lines). The side data and the filtered lines are those that the Rust gave for it. The exact lines are those of oracle/example_error.py, a
--- calculation of its own. Shown are lines at the seam of the bands, where the states carry over, and at the end.
+-- lines). The side data and the filtered lines are those that the Rust gave for it, the gains those of oracle/model.py. The exact lines are those of
+-- oracle/example_error.py, a calculation of its own. Shown are lines at the seam of the bands, where the states carry over, and at the end.
 use mathlib.Core.Path.{_≡_, refl}
 use mathlib.Core.Bool.{false}
 use mathlib.Core.List.{List, [], _∷_, _++_, map}
@@ -29,8 +29,9 @@ use Rattle.lattice_lines.specs.Lattice.{linesBy, statesBy}
 use Rattle.lattice_encoder.specs.EncoderLattice.{stageUp, stagesTo, lineEncoded}
 use Rattle.lattice_rows.specs.Filters.{bandsRun, rowFiltered}
 use Rattle.side_encoded.specs.SideFilters.{filteredBy}
-use Rattle.shape_frame.specs.FrameSide.{filterOf, secondOf, sideOf}
-use Rattle.call_encode.specs.Encoder.{encodeVerdict, spectrumEncoded, sideIn}
+use Rattle.shape_gain.specs.Gains.{gainNumbers, onNumbers}
+use Rattle.shape_frame.specs.FrameSide.{filterOf, secondOf, sideOf, gainsOf}
+use Rattle.call_encode.specs.Encoder.{encodeVerdict, gainsFound, spectrumEncoded, sideIn}
 use Rattle.lattice_exact.specs.Exact.{exactStage, exactStagesTo, lineExact, linesExact, statesExact}
 use Rattle.side_near.specs.NearExact.{firstExact, exactCarried, secondExact}
 use Rattle.side_data.specs.Side.{ordersIn, coefficientsIn}
@@ -141,10 +142,12 @@ apart =
 pub record Worked : Type 0 where
   pub orders : ordersIn side ≡ 6 ∷ 8 ∷ []
   pub coefficients : patterns (coefficientsIn side) ≡ coefficientPatterns
+  pub gains : patterns (gainNumbers (gainsFound 1 3 2953 false frame)) ≡ 0x413c89df ∷ 0x3f800000 ∷ 0x4048122e ∷ 0x3f800000 ∷ []
+  pub on : onNumbers (gainsFound 1 3 2953 false frame) ≡ 1 ∷ 1 ∷ []
   pub filtered : patterns (shown (inside (row .first) after) (inside (row .second) after)) ≡ filteredPatterns
   pub distant : distances (shown (inside (row .first) after) (inside (row .second) after)) (shown (firstExact row side frame) (secondExact row side frame)) ≡ apart
   pub exactly : shown (firstExact row side frame) (secondExact row side frame) ≡ exactLines
 
 pub worked : Worked
-unfolding ofBits toBits add sub mul div neg eq lt le notAbove indexOf coefficientOf orderFrom orderOf weightingOf rowOf frameChecks linesThrough stateThrough tab products lagSum normalizedLag autocorrelation crossed reflection nextRow stepped unpredicted predicted gainOf isOn dampingOf gainRecord powerFrom power damped rowBelow rowAt reflections filterRecord reflectionsOf quantizedOf absent stageUp stagesTo lineEncoded linesBy statesBy filterOf secondOf sideOf bandsRun rowFiltered filteredBy encodeVerdict spectrumEncoded exactStage exactStagesTo lineExact linesExact statesExact firstExact exactCarried secondExact ne
-worked = record { orders = refl; coefficients = refl; filtered = refl; distant = refl; exactly = refl }
+unfolding ofBits toBits add sub mul div neg eq lt le notAbove indexOf coefficientOf orderFrom orderOf weightingOf rowOf frameChecks linesThrough stateThrough tab products lagSum normalizedLag autocorrelation crossed reflection nextRow stepped unpredicted predicted gainOf isOn dampingOf gainRecord powerFrom power damped rowBelow rowAt reflections filterRecord reflectionsOf quantizedOf absent stageUp stagesTo lineEncoded linesBy statesBy filterOf secondOf sideOf gainsOf bandsRun rowFiltered filteredBy encodeVerdict spectrumEncoded exactStage exactStagesTo lineExact linesExact statesExact firstExact exactCarried secondExact ne
+worked = record { orders = refl; coefficients = refl; gains = refl; on = refl; filtered = refl; distant = refl; exactly = refl }

@@ -1,3 +1,4 @@
 -- The laws that belong to no one function.
 pub mod FrameLimits
+pub mod Off
 pub mod Determined

@@ -1,10 +1,13 @@
-// The analysis of a frame: a filter for each band of its row, analysed by shape_filter and quantized, and
-// what the side data costs. It assumes a frame that the encode call has checked: the row is one of the
+// The analysis of a frame: a filter for each band of its row, analysed by shape_filter and quantized, its
+// gain, and what the side data costs. It assumes a frame that the encode call has checked: the row is one of the
 // table's, and its lines are there.
 use cost_call::counted_bits;
 use row_bands::Band;
 use row_bands::Row;
 use shape_filter::analyse;
+use shape_gain::FilterGain;
+use shape_gain::Gains;
+use shape_gain::absent_gain;
 use side_data::SideData;
 use side_data::bytes_of;
 use side_quantized::Quantized;
@@ -16,34 +19,52 @@ ghost use Rattle.shape_lags.specs.LongBands.{Long, LongRow};
 ghost use Rattle.check_side.specs.Sides.{SoundSide};
 ghost use Rattle.cost_call.specs.Cost.{countedBits};
 ghost use Rattle.side_data.specs.Side.{ordersIn, indicesIn};
-ghost use Rattle.shape_frame.specs.FrameSide.{countOf, filterOf, secondOf, sideOf, frameFound};
+ghost use Rattle.shape_frame.specs.FrameSide.{countOf, shapedOf, shapedSecond, bandsOf, frameFound};
 
-// What the analysis finds in a frame: its side data, and their bits.
+// What the analysis finds in a frame: its side data, their bits, and the gains.
 pub struct Found {
     pub bits: u16,
     pub side: SideData,
+    pub gains: Gains,
+}
+
+// What it finds in a band: the filter, and its record of gain, damping and on/off.
+struct Shaped {
+    filter: Quantized,
+    gain: FilterGain,
+}
+
+// What it finds in the bands of a row.
+struct Bands {
+    side: SideData,
+    gains: Gains,
 }
 
 // The filter of a band.
-fn filter_of(lines: &[f32], band: Band, flag: bool, weighting: u8) -> Quantized
+fn filter_of(lines: &[f32], band: Band, flag: bool, weighting: u8) -> Shaped
     requires { ⌜ Long band (length (now lines)) ⌝ }
-    ensures { λ r. ⌜ r ≡ filterOf band (now (lines .entry)) flag weighting ⌝ }
+    ensures { λ r. ⌜ r ≡ shapedOf band (now (lines .entry)) flag weighting ⌝ }
 {
     let found = analyse(lines, band, flag, weighting);
-    if found.gain.on {
+    let gain = found.gain;
+    if gain.on {
         let reflections = found.reflections;
-        return quantize_all(reflections);
+        let filter = quantize_all(reflections);
+        return Shaped { filter, gain };
     }
-    none()
+    let filter = none();
+    Shaped { filter, gain }
 }
 
 // The filter of the second band, or of none.
-fn second_of(lines: &[f32], row: Row, flag: bool, weighting: u8) -> Quantized
+fn second_of(lines: &[f32], row: Row, flag: bool, weighting: u8) -> Shaped
     requires { ⌜ LongRow row (length (now lines)) ⌝ }
-    ensures { λ r. ⌜ r ≡ secondOf row (now (lines .entry)) flag weighting ⌝ }
+    ensures { λ r. ⌜ r ≡ shapedSecond row (now (lines .entry)) flag weighting ⌝ }
 {
     if row.second.stop == 0 {
-        return none();
+        let filter = none();
+        let gain = absent_gain();
+        return Shaped { filter, gain };
     }
     filter_of(lines, row.second, flag, weighting)
 }
@@ -54,20 +75,26 @@ fn count_of(row: Row) -> u8
     if row.second.stop == 0 { 1 } else { 2 }
 }
 
-// The side data of a frame: a filter for each band of its row.
-fn side_of(lines: &[f32], row: Row, flag: bool, weighting: u8) -> SideData
+// The side data and the gains of a frame: a filter for each band of its row.
+fn bands_of(lines: &[f32], row: Row, flag: bool, weighting: u8) -> Bands
     requires { ⌜ LongRow row (length (now lines)) ⌝ }
-    ensures { λ r. ⌜ r ≡ sideOf row (now (lines .entry)) flag weighting ⌝ }
+    ensures { λ r. ⌜ r ≡ bandsOf row (now (lines .entry)) flag weighting ⌝ }
 {
-    let first = filter_of(lines, row.first, flag, weighting);
-    let second = second_of(lines, row, flag, weighting);
+    let lower = filter_of(lines, row.first, flag, weighting);
+    let upper = second_of(lines, row, flag, weighting);
     let filters = count_of(row);
-    SideData {
+    let first = lower.filter;
+    let second = upper.filter;
+    let side = SideData {
         weighting,
         filters,
         first,
         second,
-    }
+    };
+    let first = lower.gain;
+    let second = upper.gain;
+    let gains = Gains { first, second };
+    Bands { side, gains }
 }
 
 // The bits of side data at a weighting. The 20 bytes have both filters' orders and indices one after the
@@ -82,13 +109,15 @@ fn side_bits(weighting: u8, side: SideData) -> u16
     counted_bits(weighting, side.filters, &bytes[2..4], &bytes[4..20])
 }
 
-// The side data of a frame, and their bits. The `requires` is what the encode call has checked: the row
+// The side data of a frame, their bits, and the gains. The `requires` is what the encode call has checked: the row
 // is one of the table's, and its lines are there. `flag` is the near-Nyquist flag.
 pub fn analyse_frame(lines: &[f32], row: Row, flag: bool, weighting: u8) -> Found
     requires { ⌜ LongRow row (length (now lines)) ⌝ }
     ensures { λ r. ⌜ r ≡ frameFound row (now (lines .entry)) flag weighting ⌝ }
 {
-    let side = side_of(lines, row, flag, weighting);
+    let bands = bands_of(lines, row, flag, weighting);
+    let side = bands.side;
+    let gains = bands.gains;
     let bits = side_bits(weighting, side);
-    Found { bits, side }
+    Found { bits, side, gains }
 }

@@ -1,2 +1,3 @@
 -- What a reader has to believe of the gain.
 pub mod Gain
+pub mod Gains

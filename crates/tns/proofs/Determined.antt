@@ -46,16 +46,23 @@ tns-cost-2048ths :
     DeterminedWith 3 tns-cost-2048ths-kinds.ps tns-cost-2048ths-kinds.r tns-cost-2048ths-reads.Post (List ℕ) (λ κs s. s .1 .1 .1 .1 .0 .now)
 tns-cost-2048ths κs a x y s t p q = (itself (p .0) (q .0), itself (p .1 .1 .parts) (q .1 .1 .parts))
 
--- the lines, the side data and the coefficients
-tns-encode-lines : DeterminedWith 3 tns-encode-kinds.ps tns-encode-kinds.r tns-encode-reads.Post (List Float) (λ κs s. s .1 .1 .1 .1 .0 .now)
+-- the lines, the side data, the coefficients, the gains and whether each filter is on
+tns-encode-lines : DeterminedWith 5 tns-encode-kinds.ps tns-encode-kinds.r tns-encode-reads.Post (List Float) (λ κs s. s .1 .1 .1 .1 .0 .now)
 tns-encode-lines κs a x y s t p q = (itself (p .answer) (q .answer), itself (p .lines) (q .lines))
 
-tns-encode-side : DeterminedWith 3 tns-encode-kinds.ps tns-encode-kinds.r tns-encode-reads.Post (List ℕ) (λ κs s. s .1 .1 .1 .1 .1 .0 .now)
+tns-encode-side : DeterminedWith 5 tns-encode-kinds.ps tns-encode-kinds.r tns-encode-reads.Post (List ℕ) (λ κs s. s .1 .1 .1 .1 .1 .0 .now)
 tns-encode-side κs a x y s t p q = (itself (p .answer) (q .answer), itself (p .side) (q .side))
 
 tns-encode-coefficients :
-    DeterminedWith 3 tns-encode-kinds.ps tns-encode-kinds.r tns-encode-reads.Post (List Float) (λ κs s. s .1 .1 .1 .1 .1 .1 .0 .now)
+    DeterminedWith 5 tns-encode-kinds.ps tns-encode-kinds.r tns-encode-reads.Post (List Float) (λ κs s. s .1 .1 .1 .1 .1 .1 .0 .now)
 tns-encode-coefficients κs a x y s t p q = (itself (p .answer) (q .answer), itself (p .coefficients) (q .coefficients))
+
+tns-encode-gains :
+    DeterminedWith 5 tns-encode-kinds.ps tns-encode-kinds.r tns-encode-reads.Post (List Float) (λ κs s. s .1 .1 .1 .1 .1 .1 .1 .0 .now)
+tns-encode-gains κs a x y s t p q = (itself (p .answer) (q .answer), itself (p .gains) (q .gains))
+
+tns-encode-on : DeterminedWith 5 tns-encode-kinds.ps tns-encode-kinds.r tns-encode-reads.Post (List ℕ) (λ κs s. s .1 .1 .1 .1 .1 .1 .1 .1 .0 .now)
+tns-encode-on κs a x y s t p q = (itself (p .answer) (q .answer), itself (p .on) (q .on))
 
 -- the block, the records, and the block as it becomes
 tns-block-write : DeterminedWith 2 tns-block-write-kinds.ps tns-block-write-kinds.r tns-block-write-reads.Post (List ℕ) (λ κs s. s .1 .1 .0 .now)

@@ -1,20 +1,26 @@
--- What an encode call's verdict leaves in the record and the coefficients, by what the door answered.
+-- What an encode call's verdict leaves in the lists that were lent beside the lines, by what the door answered. One law for any list that an accepted
+-- call writes from its side data.
 use mathlib.Core.Path.{_≡_, refl, sym, ap}
-use mathlib.Core.List.{List}
 use Prim.Native.Nat.{ℕ}
-use lib.Ieee.{Float}
 use Rattle.check_verdicts.specs.Verdicts.{Fault, Verdict, accepted, refused, unlessRefused}
 use Rattle.check_verdicts.proofs.Verdicts.{not-accepted}
-use Rattle.call_encode.specs.Encoder.{bitsVerdict, sideIn}
-use Rattle.side_data.specs.Side.{bytesIn, coefficientsIn}
+use Rattle.call_encode.specs.Encoder.{bitsVerdict, sideIn, gainsIn}
 use Rattle.side_data.specs.declared.SideData.{SideData}
+use Rattle.shape_gain.specs.declared.Gains.{Gains}
 
-pub refused-writes : (v : Verdict SideData) (why : Fault) → refused why ≡ bitsVerdict v → (bytes : List ℕ) (coefficients : List Float)
-    → (bytes ≡ unlessRefused v bytesIn bytes) × (coefficients ≡ unlessRefused v coefficientsIn coefficients)
-refused-writes (accepted s) why e r q = not-accepted e
-refused-writes (refused fault) why e r q = (refl, refl)
+-- a list of a refused call stays as it was found
+pub refused-writes : {A : Type 0} (v : Verdict SideData) (why : Fault) → refused why ≡ bitsVerdict v → (made : SideData → A) (found : A) → found ≡ unlessRefused v made found
+refused-writes (accepted s) why e made found = not-accepted e
+refused-writes (refused fault) why e made found = refl
 
-pub accepted-writes : (v : Verdict SideData) (n : ℕ) (s : SideData) → accepted n ≡ bitsVerdict v → s ≡ sideIn v → (bytes : List ℕ) (coefficients : List Float)
-    → (bytesIn s ≡ unlessRefused v bytesIn bytes) × (coefficientsIn s ≡ unlessRefused v coefficientsIn coefficients)
-accepted-writes (accepted side) n s e f r q = (ap bytesIn f, ap coefficientsIn f)
-accepted-writes (refused fault) n s e f r q = not-accepted (sym e)
+-- one of an accepted call is what is made of its side data
+pub accepted-writes : {A : Type 0} (v : Verdict SideData) (n : ℕ) → accepted n ≡ bitsVerdict v → (s : SideData) → s ≡ sideIn v → (made : SideData → A) (found : A)
+    → made s ≡ unlessRefused v made found
+accepted-writes (accepted side) n e s f made found = ap made f
+accepted-writes (refused fault) n e s f made found = not-accepted (sym e)
+
+-- or of its gains
+pub accepted-tells : {A : Type 0} (v : Verdict SideData) (n : ℕ) → accepted n ≡ bitsVerdict v → (analysed g : Gains) → g ≡ gainsIn v analysed → (made : Gains → A) (found : A)
+    → made g ≡ unlessRefused v (λ side. made analysed) found
+accepted-tells (accepted side) n e analysed g f made found = ap made f
+accepted-tells (refused fault) n e analysed g f made found = not-accepted (sym e)

@@ -21,6 +21,8 @@ use cost_call::CostAnswer;
 use cost_call::cost;
 use cost_parts::cost_2048ths;
 pub use rescue::tns_block_rescue;
+use shape_gain::gain_numbers;
+use shape_gain::on_numbers;
 use side_data::bytes_of;
 use side_data::coefficients_of;
 ghost use mathlib.Core.Path.{_≡_};
@@ -35,7 +37,7 @@ ghost use Rattle.side_split.specs.SplitRun.{statesBefore, linesFrom};
 ghost use Rattle.call_restart.specs.Restart.{lentAtLine};
 ghost use Rattle.row_durations.specs.Durations.{durationOf};
 ghost use Rattle.row_bands.specs.Bands.{rowOf};
-ghost use Rattle.call_encode.specs.Encoder.{encodeVerdict};
+ghost use Rattle.call_encode.specs.Encoder.{encodeVerdict, gainsFound};
 ghost use Rattle.answer_call.specs.Answers.{answerFor};
 ghost use Rattle.tns.specs.Encoding.{lent, TnsEncodes};
 ghost use Rattle.tns.specs.AtLine.{TnsSaves, TnsRestarts};
@@ -121,8 +123,9 @@ pub extern "C" fn tns_decode_restart(
 }
 
 // Encodes a spectrum in place, as `call_encode::encode`. An accepted call writes its side data as the
-// 20 bytes of the bits program, and its coefficients; a refused one leaves all three lists as they
-// were. `flag` is the near-Nyquist flag.
+// 20 bytes of the bits program, its coefficients, gain and damping of the first filter and then of the
+// second, and for each filter 1 if it is on, else 0. A refused one leaves all five lists as they were.
+// `flag` is the near-Nyquist flag.
 #[no_mangle]
 pub extern "C" fn tns_encode(
     duration: u8,
@@ -132,8 +135,10 @@ pub extern "C" fn tns_encode(
     lines: &mut [f32],
     side: &mut [u8; 20],
     coefficients: &mut [f32; 16],
+    gains: &mut [f32; 4],
+    on: &mut [u8; 2],
 ) -> Answer
-    ensures { λ r. ⌜ TnsEncodes (encodeVerdict duration bandwidth bits flag (now (lines .entry))) (rowOf (durationOf duration) bandwidth) (lent (now (lines .entry)) (now (side .entry)) (now (coefficients .entry))) (lent (now (lines .exit)) (now (side .exit)) (now (coefficients .exit))) r ⌝ }
+    ensures { λ r. ⌜ TnsEncodes (encodeVerdict duration bandwidth bits flag (now (lines .entry))) (gainsFound duration bandwidth bits flag (now (lines .entry))) (rowOf (durationOf duration) bandwidth) (lent (now (lines .entry)) (now (side .entry)) (now (coefficients .entry)) (now (gains .entry)) (now (on .entry))) (lent (now (lines .exit)) (now (side .exit)) (now (coefficients .exit)) (now (gains .exit)) (now (on .exit))) r ⌝ }
 {
     let encoded = encode(duration, bandwidth, bits, flag, lines);
     let answer = encoded.answer;
@@ -143,6 +148,9 @@ pub extern "C" fn tns_encode(
             let s = encoded.side;
             *side = bytes_of(s);
             *coefficients = coefficients_of(s);
+            let g = encoded.gains;
+            *gains = gain_numbers(g);
+            *on = on_numbers(g);
             accepted(n)
         }
     }

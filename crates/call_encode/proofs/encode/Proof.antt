@@ -45,7 +45,9 @@ returns c =
     let why = says (frame .frame .given .0 .0) in
     let v = frame-refused (g .duration) (g .bandwidth) (g .nbits) (g .flag) (g .lines .now) why (sym (ap frameSays (frame .frame .given .1)) ∙ frame .before .before .check-frame .ensures)
     in
-    rw v (encodes-refused why _ (g .lines .now) (c .refused .result) (ap (λ (r : Encoded). encodeSays (r .answer)) (c .refused .ensures)) (ap (λ (r : Encoded). r .side) (c .refused .ensures)))
+    rw v
+    (encodes-refused why _ _ (g .lines .now) (c .refused .result) (ap (λ (r : Encoded). encodeSays (r .answer)) (c .refused .ensures))
+    (ap (λ (r : Encoded). r .side) (c .refused .ensures)) (ap (λ (r : Encoded). r .gains) (c .refused .ensures)))
 
 returns-2 : tie.Need-returns-2
 returns-2 c =
@@ -67,7 +69,8 @@ returns-2 c =
     in
     let promised = encoded .row-encoded .ensures in
     rw (call .1)
-    (encodes-accepted row own (g .flag) (weighed .lpc-weighting .result) weighting xs _ (encoded .row-encoded .result) (call .0) w (promised .answer) (promised .side) (promised .lines)
+    (encodes-accepted row own (g .flag) (weighed .lpc-weighting .result) weighting xs _ (encoded .row-encoded .result) (call .0) w (promised .answer) (promised .side)
+    (promised .gains) (promised .lines)
     (frame-near (durationOf (g .duration)) (g .bandwidth) (g .flag) weighting xs sound (frame .before .before .before .slice-known .given))
     (reported-bits-at-most own xs (g .flag) weighting))
 

@@ -1,4 +1,4 @@
--- The side data are the definition's, and so are their bits and the lines that they leave.
+-- The side data and the gains are the definition's, and so are the bits and the lines that the side data leave.
 use mathlib.Core.Path.{sym, _∙_, ap, subst}
 use borrow.Author.Needs.{needs}
 use Rattle.check_verdicts.specs.Verdicts.{accepted}
@@ -12,7 +12,7 @@ use Rattle.call_encode.proofs.row_encoded.Tie as tie
 
 two-encoded-requires : tie.Need-two-encoded-requires
 two-encoded-requires c κs =
-    let found = c .before .before in
+    let found = c .before .before .before in
     let start = found .before .before .before in
     let g = start .args in
     (start .pre .0, subst Reported (sym (ap (λ (f : Found). f .side) (found .analyse-frame .ensures))) (side-reported (g .row) (g .lines .now) (g .flag) (g .weighting)))
@@ -20,12 +20,13 @@ two-encoded-requires c κs =
 returns : tie.Need-returns
 returns c =
     let filtering = c .before .before in
-    let found = filtering .before .before .before in
+    let found = filtering .before .before .before .before in
     let g = found .before .before .before .args in
     let e = ap (λ (f : Found). f .side) (found .analyse-frame .ensures) in
     record {
       answer = ap (λ (f : Found). accepted (f .bits)) (found .analyse-frame .ensures);
       side = e;
+      gains = ap (λ (f : Found). f .gains) (found .analyse-frame .ensures);
       lines = filtering .two-encoded .ensures ∙ ap (λ (side : SideData). filteredBy side (g .row) (g .lines .now)) e;
     }
 

@@ -1,42 +1,42 @@
--- A filter that is off has eight zeros, whose indices are eights.
-use mathlib.Core.Path.{_≡_, refl, _∙_, ap}
-use mathlib.Core.Bool.{Bool, false}
+-- The filter and the record are the definition's, where it is on and where it is off.
+use mathlib.Core.Path.{_≡_, _∙_, ap}
+use mathlib.Core.Bool.{Bool}
 use mathlib.Core.List.{List}
 use Prim.Native.Nat.{ℕ}
 use borrow.Author.Needs.{needs}
 use lib.Ieee.{Float}
-use lib.ListN.{replicate}
 use Rattle.row_bands.specs.declared.Band.{Band}
-use Rattle.law_rounding.specs.Floats.{f0}
-use Rattle.index_choice.specs.Indices.{indexOf, orderOf, orderFrom, notAbove}
-use Rattle.index_coefficients.specs.Coefficients.{coefficientOf}
-use Rattle.shape_gain.specs.declared.FilterGain.{FilterGain}
-use Rattle.shape_filter.specs.Analysis.{filterRecord, reflectionsOf}
+use Rattle.shape_filter.specs.Analysis.{analysedOf}
 use Rattle.shape_filter.specs.declared.Analysed.{Analysed}
-use Rattle.shape_filter.proofs.FilterReflections.{off-zeros}
-use Rattle.side_quantized.specs.Quantized.{quantizedOf, absent}
-use Rattle.shape_frame.specs.FrameSide.{filterOf}
+use Rattle.side_quantized.specs.Quantized.{quantizedOf}
+use Rattle.side_quantized.specs.declared.Quantized.{Quantized}
+use Rattle.shape_frame.specs.FrameSide.{filterOf, shapedOf}
+use Rattle.shape_frame.specs.declared.Shaped.{Shaped}
+use Rattle.shape_frame.proofs.Off.{off-is}
 use Rattle.shape_frame.proofs.filter_of.Statement.{statement}
 use Rattle.shape_frame.proofs.filter_of.Tie as tie
 
-zeros-absent : absent ≡ quantizedOf (replicate 8 f0)
-unfolding absent quantizedOf indexOf coefficientOf orderOf orderFrom notAbove lib.Ieee.le lib.Ieee.ofBits
-zeros-absent = refl
-
-off-is : (b : Band) (lines : List Float) (flag : Bool) (weighting : ℕ) (g : FilterGain) → g ≡ filterRecord b lines flag weighting → g .on ≡ false
-    → absent ≡ quantizedOf (reflectionsOf b lines flag weighting)
-off-is b lines flag weighting g eg off = zeros-absent ∙ ap quantizedOf (off-zeros b lines flag weighting g eg off)
+-- the filter and the record together
+shaped : (b : Band) (lines : List Float) (flag : Bool) (weighting : ℕ) (f : Quantized) (a : Analysed) → f ≡ filterOf b lines flag weighting
+    → a ≡ analysedOf b lines flag weighting → _≡_ {A = Shaped} (record { filter = f; gain = a .gain }) (shapedOf b lines flag weighting)
+shaped b lines flag weighting f a e found = rw (e, found)
 
 returns : tie.Need-returns
 unfolding filterOf
-returns c = c .quantize-all .ensures ∙ ap quantizedOf (ap (λ (a : Analysed). a .reflections) (c .before .before .before .analyse .ensures))
+returns c =
+    let found = c .before .before .before .before in
+    let g = found .before .before .args in
+    shaped (g .band) (g .lines .now) (g .flag) (g .weighting) (c .quantize-all .result) (found .analyse .result)
+    (c .quantize-all .ensures ∙ ap quantizedOf (ap (λ (a : Analysed). a .reflections) (found .analyse .ensures))) (found .analyse .ensures)
 
 returns-2 : tie.Need-returns-2
 unfolding filterOf
 returns-2 c =
-    let found = c .before .before in
+    let found = c .before .before .before in
     let g = found .before .before .args in
-    c .none .ensures ∙ off-is (g .band) (g .lines .now) (g .flag) (g .weighting) (found .analyse .result .gain) (ap (λ (a : Analysed). a .gain) (found .analyse .ensures)) (c .before .if1 .left)
+    shaped (g .band) (g .lines .now) (g .flag) (g .weighting) (c .none .result) (found .analyse .result)
+    (c .none .ensures ∙ off-is (g .band) (g .lines .now) (g .flag) (g .weighting) (found .analyse .result .gain) (ap (λ (a : Analysed). a .gain) (found .analyse .ensures)) (c .before .if1 .left))
+    (found .analyse .ensures)
 
 pub filter-of-spec : {M : Type 1} → statement M
 filter-of-spec =

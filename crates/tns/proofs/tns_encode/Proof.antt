@@ -8,7 +8,9 @@ use Rattle.call_encode.specs.Encoder.{encodeVerdict, bitsVerdict, encodeSays}
 use Rattle.answer_call.specs.Answers.{answerFor}
 use Rattle.answer_call.specs.declared.Answer.{Answer}
 use Rattle.answer_call.proofs.Small.{encode-place}
-use Rattle.tns.proofs.Written.{refused-writes, accepted-writes}
+use Rattle.side_data.specs.Side.{bytesIn, coefficientsIn}
+use Rattle.shape_gain.specs.Gains.{gainNumbers, onNumbers}
+use Rattle.tns.proofs.Written.{refused-writes, accepted-writes, accepted-tells}
 use Rattle.tns.proofs.tns_encode.Statement.{statement}
 use Rattle.tns.proofs.tns_encode.Tie as tie
 
@@ -40,33 +42,39 @@ returns c =
     let g = encoded .before .before .before .args in
     let door = encoded .encode .ensures in
     let v = encodeVerdict (g .duration) (g .bandwidth) (g .bits) (g .flag) (g .lines .now) in
-    let writes = refused-writes v _ (said answered) (g .side .now) (g .coefficients .now) in
     let answer = c .refused .ensures ∙ ap (answerFor itsBits) (said answered) in
     record {
       answer = answer;
       lines = door .lines;
-      side = writes .0;
-      coefficients = writes .1;
+      side = refused-writes v _ (said answered) _ (g .side .now);
+      coefficients = refused-writes v _ (said answered) _ (g .coefficients .now);
+      gains = refused-writes v _ (said answered) _ (g .gains .now);
+      on = refused-writes v _ (said answered) _ (g .on .now);
       near = door .near;
       few-bits = few _ _ (bitsVerdict v) (door .answer) (door .few-bits) answer;
     }
 
 returns-2 : tie.Need-returns-2
 returns-2 c =
-    let joined = c .before in
+    let switched = c .before in
+    let gained = switched .before in
+    let joined = gained .before .before in
     let recorded = joined .before in
     let answered = recorded .before .before .before in
     let encoded = answered .before .before .before .before in
     let g = encoded .before .before .before .args in
     let door = encoded .encode .ensures in
     let v = encodeVerdict (g .duration) (g .bandwidth) (g .bits) (g .flag) (g .lines .now) in
-    let writes = accepted-writes v _ _ (costs answered) (door .side) (g .side .now) (g .coefficients .now) in
+    let side = encoded .encode .result .side in
+    let gains = encoded .encode .result .gains in
     let answer = c .accepted .ensures ∙ ap (answerFor itsBits) (costs answered) in
     record {
       answer = answer;
       lines = door .lines;
-      side = recorded .bytes-of .ensures ∙ writes .0;
-      coefficients = joined .coefficients-of .ensures ∙ writes .1;
+      side = recorded .bytes-of .ensures ∙ accepted-writes v _ (costs answered) side (door .side) bytesIn (g .side .now);
+      coefficients = joined .coefficients-of .ensures ∙ accepted-writes v _ (costs answered) side (door .side) coefficientsIn (g .coefficients .now);
+      gains = gained .gain-numbers .ensures ∙ accepted-tells v _ (costs answered) _ gains (door .gains) gainNumbers (g .gains .now);
+      on = switched .on-numbers .ensures ∙ accepted-tells v _ (costs answered) _ gains (door .gains) onNumbers (g .on .now);
       near = door .near;
       few-bits = few _ _ (bitsVerdict v) (door .answer) (door .few-bits) answer;
     }
@@ -79,6 +87,8 @@ tns-encode-spec =
     (λ c. search needs)
     refused-requires
     (λ c. search needs)
+    (λ c κs. search needs)
+    (λ c κs. search needs)
     (λ c κs. search needs)
     (λ c κs. search needs)
     (λ c κs. search needs)
