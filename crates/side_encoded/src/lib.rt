@@ -29,8 +29,8 @@ pub fn two_encoded(row: Row, side: SideData, lines: &mut [f32])
 
 // The first filter, from states of 0. Where it has order 0 nothing is done, and the same goes for the
 // second. Each of the two functions has its own test and call: so the compiler keeps the lattice's loop in
-// one function and the tests outside of it, and a frame without a filter makes no call (docs/DECISIONS.md,
-// "A filter of order 0 makes no call").
+// one function and the tests outside of it, and a filter of order 0 makes no call (docs/DECISIONS.md,
+// "Speed").
 fn first_encoded(band: Band, filter: Quantized, lines: &mut [f32]) -> [f32; 8]
     requires { ⌜ Fits band (length (now lines)) ⌝ }
     requires { ⌜ filter .order ≤ 8 ⌝ }
