@@ -8,7 +8,7 @@ nothing with the port or the harness, and rounds each f32 operation by itself.
 
 The example is one call of the list crates/prog_replay/data/encode, where the Rust's
 side data and filtered lines stand beside the entering lines. Its numbers must be
-those of crates/examples/specs/Worked.antt.
+those of crates/examples/specs/Worked.antt, the list's gains among them.
 
 Assumes finite lines that stay finite, coefficients that are whole numbers of
 2^-26, and Python 3 with its standard library.
@@ -162,6 +162,7 @@ def example():
     shown = [place - first for part in SHOWN for place in part]
     wanted = [f"0x{p:08x}" for p in (*before, *coefficients, *(filtered[n] for n in shown))]
     wanted += [whole(exact[n]) for n in shown] + [str(abs(away[n])) for n in shown]
+    wanted += [f"0x{p:08x}" for p in answer.gains]
     same = wanted == re.findall(r"0x[0-9a-f]{8}|(?:pos |negsuc |)\d{20,}", text)
     print(f"example: {WORKED.name} has these numbers: {'yes' if same else 'no'}")
     return wrong == 0 and same

@@ -1,6 +1,6 @@
 """The form of the replayed lists (README.md, "The lists"): records read from bytes
-and put into bytes. A line or a coefficient is the bit pattern of its f32, and one
-pattern stands for every NaN of an answer.
+and put into bytes. A line, a coefficient or a gain is the bit pattern of its f32,
+and one pattern stands for every NaN of an answer.
 
 Assumes Python 3 with its standard library.
 """
@@ -18,10 +18,12 @@ CALLS = ["index", "cost", "decode", "encode", "save", "restart"]
 # of indices; then the number of lines.
 HEAD = "7BI"
 
-# What an encode call is lent for its side data and coefficients: a refusal must
-# leave it.
+# What an encode call is lent for its side data, its coefficients, gain and damping
+# of its two filters, and whether they are on: a refusal must leave it.
 LENT_SIDE = bytes([0xA5] * 20)
-LENT_COEFFICIENTS = [0xA5A5A5A5] * 16
+LENT_COEFFICIENTS = (0xA5A5A5A5,) * 16
+LENT_GAINS = (0xA5A5A5A5,) * 4
+LENT_ON = bytes([0xA5] * 2)
 
 # What a save call is lent for its states, likewise.
 LENT_STATES = (0xA5A5A5A5,) * 8
@@ -52,9 +54,10 @@ class Call:
 
 @dataclasses.dataclass
 class Answer:
-    """What is answered, and what is left of all that was lent. Side data and
-    coefficients are the encoder's alone. A save and a restart leave states, and
-    their output in the place of the lines."""
+    """What is answered, and what is left of all that was lent. Side data,
+    coefficients and gains are the encoder's alone: gain and damping of the first
+    filter, then of the second, and in `on` a byte for each that is 1 if it is on. A
+    save and a restart leave states, and their output in the place of the lines."""
 
     refusal: int = 0
     place: int = 0
@@ -62,6 +65,8 @@ class Answer:
     bits: int = 0
     side: bytes = b""
     coefficients: tuple = ()
+    gains: tuple = ()
+    on: bytes = b""
     states: tuple = ()
     lines: tuple = ()
 
@@ -103,6 +108,8 @@ def to_bytes(call, answer):
             words((answer.refusal, answer.place, answer.found, answer.bits)),
             words(answer.side),
             words(answer.coefficients),
+            words(answer.gains),
+            words(answer.on),
             words(answer.states),
             words(answer.lines),
         ]
@@ -135,6 +142,8 @@ def records(data):
         if call.call == ENCODE:
             answer.side = bytes(take("20I"))
             answer.coefficients = take("16I")
+            answer.gains = take("4I")
+            answer.on = bytes(take("2I"))
         if has_output(call):
             answer.states = take("8I")
         answer.lines = take(f"{n}I")

@@ -1,5 +1,5 @@
 #!/usr/bin/env python3
-"""A model of docs/RULES.md, to be read beside it: its rows, refusals, analysis,
+"""A model of docs/RULES.md, to be read beside it: its rows, refusals, analysis, gains,
 quantization, cost, lattices and restart at a line, one function for each rule. It is
 written from the rules and shares nothing with the port or the harness.
 
@@ -18,6 +18,7 @@ Assumes Python 3 with its standard library.
 """
 
 import argparse
+import dataclasses
 import math
 import pathlib
 import re
@@ -231,11 +232,39 @@ def recursion(r):
     return row, error
 
 
-def damping(weighting, gain):
-    """Of a filter that is on."""
-    if weighting == 1 and gain < 2:
+def gain_of(r0, error):
+    """The prediction gain. An error of 0 is not divided by."""
+    return r0 if error == 0 else div(r0, error)
+
+
+def is_on(gain, near_nyquist):
+    """A gain that is not a number is not over 1.5."""
+    return gain > 1.5 and not near_nyquist
+
+
+def damping_of(gain, on, weighting):
+    if on and weighting == 1 and gain < 2:
         return sub(1.0, div(mul(sub(1.0, f32(0.85)), sub(2.0, gain)), 0.5))
     return 1.0
+
+
+@dataclasses.dataclass
+class FilterGain:
+    """The record of a filter."""
+
+    gain: float
+    damping: float
+    on: bool
+
+
+# The record of a filter whose band the row does not have.
+ABSENT = FilterGain(gain=0.0, damping=1.0, on=False)
+
+
+def gain_record(r0, error, near_nyquist, weighting):
+    gain = gain_of(r0, error)
+    on = is_on(gain, near_nyquist)
+    return FilterGain(gain, damping_of(gain, on, weighting), on)
 
 
 def step_down(row):
@@ -249,15 +278,15 @@ def step_down(row):
     return result
 
 
-def reflections(tables, band, lines, weighting, near_nyquist):
-    """The eight reflection coefficients of a filter, before quantization."""
+def analysed(tables, band, lines, weighting, near_nyquist):
+    """The record of a filter, and its eight reflection coefficients before
+    quantization."""
     r = lags(tables, band, lines)
     row, error = recursion(r)
-    gain = r[0] if error == 0 else div(r[0], error)
-    if near_nyquist or not gain > 1.5:
-        return [0.0] * 8
-    damped = damping(weighting, gain)
-    return step_down([mul(a, power(damped, k)) for k, a in enumerate(row)])
+    record = gain_record(r[0], error, near_nyquist, weighting)
+    if not record.on:
+        return record, [0.0] * 8
+    return record, step_down([mul(a, power(record.damping, k)) for k, a in enumerate(row)])
 
 
 # Index and coefficient
@@ -440,15 +469,17 @@ def encode_call(tables, call, across):
     answer = refuse_spectrum(call)
     if answer is not None:
         answer.side = lists.LENT_SIDE
-        answer.coefficients = tuple(lists.LENT_COEFFICIENTS)
+        answer.coefficients = lists.LENT_COEFFICIENTS
+        answer.gains, answer.on = lists.LENT_GAINS, lists.LENT_ON
         answer.lines = left_alone(call.lines)
         return answer, []
     lines = floats_of(call.lines)
     bands = ROWS[call.duration][call.bandwidth]
     weighting = 1 if call.bits < WEIGHTING_LIMIT[call.duration] else 0
-    found = [reflections(tables, band, lines, weighting, call.choice != 0) for band in bands]
-    found += [[0.0] * 8] * (2 - len(bands))
-    unquantized = [x for eight in found for x in eight]
+    found = [analysed(tables, band, lines, weighting, call.choice != 0) for band in bands]
+    found += [(ABSENT, [0.0] * 8)] * (2 - len(bands))
+    gains = [record for record, _ in found]
+    unquantized = [x for _, eight in found for x in eight]
     indices = [index_of(x, across) for x in unquantized]
     coefficients = [coefficient_of(index) for index in indices]
     orders = [order_of(indices[:8]), order_of(indices[8:])]
@@ -458,6 +489,8 @@ def encode_call(tables, call, across):
         bits=cost_of(tables, weighting, len(bands), orders, indices),
         side=bytes([weighting, len(bands), *orders, *indices]),
         coefficients=patterns_of(coefficients),
+        gains=patterns_of(x for record in gains for x in (record.gain, record.damping)),
+        on=bytes(int(record.on) for record in gains),
         lines=patterns_of(lines),
     )
     return answer, unquantized

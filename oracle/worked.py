@@ -1,7 +1,8 @@
 #!/usr/bin/env python3
 """Worked cases of docs/RULES.md, each with a name: the limits of every number, every
 refusal, refusals that meet, silence, frames saved and mended ("Restart at a line
-(C-22)"), and "Marked cases". The answers are the model's (model.py).
+(C-22)"), gains and why a filter is off ("Gains (C-18)"), and "Marked cases". The
+answers are the model's (model.py).
 
     oracle/worked.py [--src DIR] --print           a line for each case and its answer
     oracle/worked.py [--src DIR] --write [FILE]    writes the list crates/prog_replay/data/worked
@@ -9,7 +10,8 @@ refusal, refusals that meet, silence, frames saved and mended ("Restart at a lin
 
 With a FILE the list is written there instead. It fails if a case differs, if a marked
 case has another result than stated there, if a mended frame breaks the promise of
-"Restart at a line (C-22)", or if a case leans on the last digits of the arcsine.
+"Restart at a line (C-22)", if a gain is not what its case is there for, or if a case
+leans on the last digits of the arcsine.
 
 Assumes Python 3 with its standard library.
 """
@@ -22,7 +24,7 @@ import sys
 import lists
 import model
 from lists import COST, DECODE, ENCODE, INDEX, RESTART, SAVE, Call
-from model import f32, mul, pattern_of, patterns_of
+from model import f32, float_of, mul, pattern_of, patterns_of
 
 LIST = lists.FOLDER / "worked"
 NAMES = ["10 ms", "7.5 ms"]
@@ -420,13 +422,20 @@ def refused_cases():
 # Encode cases
 
 
-def encode(duration, bandwidth, count, first=1000.0, factor=0.95, bits=1000, flag=False):
+def falling(count, first=1000.0, factor=0.95):
     """Each line is the one before it times a factor."""
     lines = [first]
     while len(lines) < count:
         lines.append(mul(lines[-1], f32(factor)))
-    patterns = tuple(map(pattern_of, lines[:count]))
-    return Call(ENCODE, duration, bandwidth, int(flag), bits=bits, lines=patterns)
+    return lines[:count]
+
+
+def encode_lines(duration, bandwidth, lines, bits=1000, flag=False):
+    return Call(ENCODE, duration, bandwidth, int(flag), bits=bits, lines=patterns_of(lines))
+
+
+def encode(duration, bandwidth, count, first=1000.0, factor=0.95, bits=1000, flag=False):
+    return encode_lines(duration, bandwidth, falling(count, first, factor), bits, flag)
 
 
 def silence(duration, bandwidth, count, bits=1000):
@@ -458,6 +467,169 @@ def encode_cases():
             yield name, encode(0, 4, 400, factor=factor, flag=flag)
     # E stops at line 200 here.
     yield "10 ms bandwidth 2, falling by 0.95", encode(0, 2, 400)
+
+
+# Gains: 7.5 ms, where the weighting is 1 up to 359 bits. Each case states of both
+# filters whether they are on and damped, or why they are off, and may state the
+# first filter's gain.
+
+ON, DAMPED = "on", "damped"
+NO_BAND, NOT_A_NUMBER, LOW, FLAG = "no band", "not a number", "not over 1.5", "near Nyquist"
+
+
+def one_band(factor, bits=359, flag=False, first=1000.0):
+    """Bandwidth 0, falling lines: the larger the factor, the larger the gain."""
+    return encode(1, 0, 60, first, factor, bits, flag)
+
+
+def gains_at_limits():
+    """The factors are found by halving, and then one by one."""
+    for name, pattern, gain, stands in [
+        ("the f32 below 1.5", 0x3F1417C3, 0x3FBFFFFF, (LOW, LOW, LOW)),
+        ("exactly 1.5", 0x3F1417C4, 0x3FC00000, (LOW, LOW, LOW)),
+        ("the f32 above 1.5", 0x3F1417C6, 0x3FC00001, (DAMPED, ON, FLAG)),
+        ("the f32 below 2", 0x3F356032, 0x3FFFFFFF, (DAMPED, ON, FLAG)),
+    ]:
+        factor = float_of(pattern)
+        for bits, flag, stand, said in [
+            (359, False, stands[0], "weighting 1"),
+            (360, False, stands[1], "weighting 0"),
+            (359, True, stands[2], "weighting 1, near Nyquist"),
+        ]:
+            yield f"a gain of {name}, {said}", one_band(factor, bits, flag), (stand, NO_BAND), gain
+    factor = float_of(0x3F356030)
+    yield "a gain of exactly 2, weighting 1", one_band(factor, first=1.0), (ON, NO_BAND), 0x40000000
+    yield "a gain between 1.5 and 2, weighting 1", one_band(0.65), (DAMPED, NO_BAND), None
+    yield "a gain between 1.5 and 2, weighting 0", one_band(0.65, 360), (ON, NO_BAND), None
+
+
+# Bandwidth 3, whose bands are 9 to 120 and 120 to 240, in three parts each. What a band
+# may hold: lines that lean much, lines that lean little, and one line in each part.
+PARTS = [(37, 36, 38), (39, 41, 40)]
+
+
+def much(f):
+    return falling(sum(PARTS[f]))
+
+
+def little(f):
+    return falling(sum(PARTS[f]), factor=0.65)
+
+
+def alone(f):
+    return [line for part in PARTS[f] for line in [1.0] + [0.0] * (part - 1)]
+
+
+def two_bands(first, second, changed=None, bits=359, flag=False):
+    """Some lines may be changed, by their number."""
+    lines = [1.0] * 9 + first(0) + second(1)
+    for place, line in (changed or {}).items():
+        lines[place] = line
+    return encode_lines(1, 3, lines, bits, flag)
+
+
+def gains_of_two_bands():
+    for name, bands, stands in [
+        ("much in both", (much, much), (ON, ON)),
+        ("much, then little", (much, little), (ON, DAMPED)),
+        ("little, then much", (little, much), (DAMPED, ON)),
+        ("little in both", (little, little), (DAMPED, DAMPED)),
+        ("much, then lone lines", (much, alone), (ON, LOW)),
+        ("lone lines, then much", (alone, much), (LOW, ON)),
+    ]:
+        yield name, two_bands(*bands), stands, None
+        off = tuple(LOW if stand == LOW else FLAG for stand in stands)
+        yield f"{name}, near Nyquist", two_bands(*bands, flag=True), off, None
+    name, bands = "little in both, weighting 0", (little, little)
+    yield name, two_bands(*bands, bits=360), (ON, ON), None
+
+
+def gains_of_strays():
+    """Lines that are not finite, huge or subnormal, among lines that lean much."""
+
+    def lines(changed, **more):
+        return two_bands(much, much, changed, **more)
+
+    for name, line, stand in [
+        ("NaN", math.nan, NOT_A_NUMBER),
+        ("infinity", math.inf, NOT_A_NUMBER),
+        ("-infinity", -math.inf, NOT_A_NUMBER),
+        ("2^64", 2.0**64, NOT_A_NUMBER),
+        ("the largest f32", float_of(0x7F7FFFFF), NOT_A_NUMBER),
+        ("the f32 below 2^64", float_of(0x5F7FFFFF), DAMPED),
+        ("the smallest f32", 2.0**-149, ON),
+    ]:
+        yield f"{name} in the first band", lines({60: line}), (stand, ON), None
+        yield f"{name} in the second band", lines({180: line}), (ON, stand), None
+    yield "NaN below the bands", lines({8: math.nan}), (ON, ON), None
+    yield "NaN beyond the band", encode_lines(1, 0, falling(60) + [math.nan]), (ON, NO_BAND), None
+    yield "NaN and near Nyquist", lines({60: math.nan}, flag=True), (NOT_A_NUMBER, FLAG), None
+    every = {place: 2.0**-140 for place in range(9, 120, 5)}
+    yield "a subnormal at every fifth line of the first band", lines(every), (ON, ON), None
+
+
+def gains_of_sizes():
+    """Whole bands of one size: the three energies, or their product, overflow or
+    underflow."""
+    for e, stand, gain in [
+        (63, NOT_A_NUMBER, None),
+        (50, ON, None),
+        (-50, LOW, 0x3F800000),
+        (-140, LOW, 0x3F800000),
+    ]:
+        lines = [f32(line * 2.0**e) for line in falling(60, 1.0, 0.98)]
+        yield f"lines around 2^{e}", encode_lines(1, 0, lines, 359), (stand, NO_BAND), gain
+
+
+def coarse(factor, step=1):
+    """Bandwidth 0, whose parts have 17 lines each. In the first part lines whose energy
+    is so coarse that the lag of a step is larger; in the two others falling lines. All
+    lines but those of the steps are 0."""
+
+    def spread(lines):
+        return [lines[n // step] if n % step == 0 else 0.0 for n in range(17)]
+
+    small = [1.5 * 2.0**-75 if n % 2 == 0 else 2.0**-75 for n in range(17)]
+    large = falling(17, 1.0, factor)
+    return encode_lines(1, 0, [0.0] * 9 + spread(small) + spread(large) * 2, 359)
+
+
+def gain_cases():
+    yield from gains_at_limits()
+    yield from gains_of_two_bands()
+    yield from gains_of_strays()
+    yield from gains_of_sizes()
+    yield "a negative gain", coarse(0.7), (LOW, NO_BAND), None
+    zero = "an error of 0: the gain is lag 0"
+    yield zero, coarse(float_of(0x3F1D3402)), (ON, NO_BAND), 0x40400000
+    stands = (f"{ON}, order 0", NO_BAND)
+    yield f"{zero}, coefficients over 1", coarse(float_of(0x3F36A62E), 2), stands, 0x40400000
+
+
+def stand_of(call, answer, f):
+    """Whether a filter is on and damped, or why it is off. A filter that is on may have
+    order 0 all the same."""
+    gain, damping = model.floats_of(answer.gains[2 * f : 2 * f + 2])
+    if f >= len(model.ROWS[call.duration][call.bandwidth]):
+        return NO_BAND
+    if answer.on[f]:
+        stand = DAMPED if damping < 1 else ON
+        return stand if answer.side[2 + f] else f"{stand}, order 0"
+    if math.isnan(gain):
+        return NOT_A_NUMBER
+    return FLAG if gain > 1.5 else LOW
+
+
+def check_gains(tables):
+    """Whether the model's gains are what their cases are there for."""
+    good = True
+    for name, call, stands, gain in gain_cases():
+        answer, _ = model.answered(tables, call)
+        found = tuple(stand_of(call, answer, f) for f in range(2))
+        if found != stands or gain not in (None, answer.gains[0]):
+            print(f"worked: {name}: the model has {found}, gain {answer.gains[0]:08x}")
+            good = False
+    return good
 
 
 # Marked cases
@@ -509,6 +681,8 @@ def cases():
         yield from some()
     for some in [mended_cases, any_states_cases, refused_cases]:
         yield from some()
+    for name, call, *_ in gain_cases():
+        yield name, call
 
 
 def said(call, answer):
@@ -528,6 +702,9 @@ def said(call, answer):
         nonzero = sum(pattern != 0 for pattern in answer.coefficients)
         words += f", weighting {weighting}, filters {filters}, orders {first} {second}"
         words += f", indices {' '.join(map(str, indices))}, coefficients {nonzero}"
+        for f in range(2):
+            gain, damping = model.floats_of(answer.gains[2 * f : 2 * f + 2])
+            words += f", gain {gain:.9g}, damping {damping:.9g}, {stand_of(call, answer, f)}"
     if call.call == SAVE and not answer.refusal:
         words += f", states {' '.join(f'{x:.6g}' for x in model.floats_of(answer.states))}"
     if call.call == COST:
@@ -547,7 +724,7 @@ def main():
     work.add_argument("--write", nargs="?", const=LIST, type=pathlib.Path, metavar="FILE")
     given = arguments.parse_args()
     tables = model.Tables(given.src)
-    good = check_marked(tables) and check_mended(tables)
+    good = all([check_marked(tables), check_mended(tables), check_gains(tables)])
     written = b""
     count = 0
     for name, call in cases():

@@ -1,5 +1,6 @@
 //! The library called from Rust: the lists of `crates/prog_replay/data`, refusals, buffers that a refused call
-//! must not change, empty slices, threads.
+//! must not change, empty slices, threads. Encode records are also tried through the export as C calls it,
+//! because the crate cannot express refusals 1 and 2 and does not show what a refused call leaves.
 
 mod common;
 
@@ -7,9 +8,14 @@ use common::{bits_of, same, List, Record, BANDWIDTHS, DURATIONS};
 use gillsextant::decoder::temporal_noise_shaping::apply_temporal_noise_shaping;
 use gillsextant::encoder::temporal_noise_shaping::TemporalNoiseShaping;
 use gillsextant::{
-    cost, cost_exact, decode, decode_restart, decode_save, encode, Bandwidth, Duration, Refusal,
-    Saved,
+    cost, cost_exact, decode, decode_restart, decode_save, encode, Bandwidth, Duration, Encoded,
+    Refusal, Saved, WhyOff,
 };
+
+/// The exports as the crate declares them.
+#[allow(dead_code)] // one of them is called here
+#[path = "../src/exports.rs"]
+mod exports;
 
 impl Record {
     fn costs(&self) {
@@ -56,27 +62,35 @@ impl Record {
         assert!(same(&lines, &self.after));
     }
 
-    fn encodes(&self) {
-        let duration = DURATIONS[self.duration as usize];
-        let bandwidth = BANDWIDTHS[self.bandwidth as usize];
-        let mut lines = self.before.clone();
+    /// The crate's answer to an encode record, or nothing where Rust cannot express the call.
+    fn encoded(&self, lines: &mut [f32]) -> Option<Result<Encoded, Refusal>> {
+        if self.call != 3 {
+            return None;
+        }
+        let duration = *DURATIONS.get(self.duration as usize)?;
+        let bandwidth = *BANDWIDTHS.get(self.bandwidth as usize)?;
         let near_nyquist = self.choice == 1;
-        let found = encode(
+        Some(encode(
             duration,
             bandwidth,
             self.bit_number,
             near_nyquist,
-            &mut lines,
-        );
+            lines,
+        ))
+    }
+
+    fn encodes(&self) {
+        let mut lines = self.before.clone();
+        let found = self.encoded(&mut lines).expect("Rust can express it");
         assert_eq!(found.map(|got| got.bits), self.answer);
         assert!(same(&lines, &self.after));
         // lc3-codec's names.
         let mut lines = self.before.clone();
-        let named = TemporalNoiseShaping::new(duration).run(
+        let named = TemporalNoiseShaping::new(DURATIONS[self.duration as usize]).run(
             &mut lines,
             self.bandwidth as usize,
             self.bit_number as usize,
-            near_nyquist,
+            self.choice == 1,
         );
         assert_eq!(
             named
@@ -93,7 +107,66 @@ impl Record {
             assert_eq!(side.indices, self.side[4..]);
             assert_eq!(bits_of(&got.coefficients), bits_of(&self.coefficients));
             assert_eq!(named.rc_i, side.indices.map(usize::from));
+            self.tells_gains(&got);
         }
+    }
+
+    /// Gain, damping and on or off of each filter are those of the list.
+    fn tells_gains(&self, got: &Encoded) {
+        let numbers = got.gains.map(|of| [of.gain, of.damping]).concat();
+        assert!(same(&numbers, &self.gains));
+        assert_eq!(got.gains.map(|of| u8::from(of.on)), self.on[..]);
+        let why = got.why_off();
+        assert_eq!(why, [0, 1].map(|filter| self.why_off(filter)));
+        assert_eq!(why.map(|why| why.is_none()), got.gains.map(|of| of.on));
+    }
+
+    /// Why a filter of an accepted encode record is off, by the record alone: the first reason stands.
+    fn why_off(&self, filter: usize) -> Option<WhyOff> {
+        let gain = self.gains[2 * filter];
+        if filter == 1 && self.bandwidth < 3 {
+            return Some(WhyOff::NoBand);
+        }
+        if gain.is_nan() {
+            return Some(WhyOff::NotANumber);
+        }
+        if gain <= 1.5 {
+            return Some(WhyOff::LowGain);
+        }
+        (self.choice == 1).then_some(WhyOff::NearNyquist)
+    }
+
+    /// An encode call by the export, with everything that it may write to filled with 0xA5.
+    fn encodes_by_export(&self) {
+        let pattern = f32::from_bits(0xa5a5_a5a5);
+        let (mut side, mut on) = ([0xa5; 20], [0xa5; 2]);
+        let (mut coefficients, mut gains) = ([pattern; 16], [pattern; 4]);
+        let mut lines = self.before.clone();
+        // Sound: each pointer comes from a borrow, is valid for its length, and no two overlap.
+        let answer = unsafe {
+            exports::tns_encode(
+                self.duration,
+                self.bandwidth,
+                self.bit_number,
+                self.choice == 1,
+                lines.as_mut_ptr(),
+                lines.len(),
+                &mut side,
+                &mut coefficients,
+                &mut gains,
+                &mut on,
+            )
+        };
+        let (refusal, bits) = match self.answer {
+            Ok(bits) => (0, bits),
+            Err(why) => (why.number(), 0),
+        };
+        assert_eq!((answer.refusal, answer.bits), (refusal, bits));
+        assert_eq!((answer.place, answer.found), (0, 0));
+        assert_eq!((&side[..], &on[..]), (&self.side[..], &self.on[..]));
+        assert_eq!(bits_of(&coefficients), bits_of(&self.coefficients));
+        assert!(same(&gains, &self.gains));
+        assert!(same(&lines, &self.after));
     }
 
     fn saves(&self) {
@@ -185,7 +258,85 @@ fn encoded_spectra_across_threads() {
 
 #[test]
 fn worked_cases() {
-    assert_eq!(replayed("worked"), (436, 41));
+    assert_eq!(replayed("worked"), (489, 41));
+}
+
+/// All encode records of both lists. Those that are refused have 0xA5 in every byte of what the call may write
+/// to besides the lines.
+#[test]
+fn encoded_spectra_by_the_export() {
+    let (mut records, mut refused) = (0, 0);
+    for name in ["encode", "worked"] {
+        let mut list = List::of(name);
+        while list.more() {
+            let record = Record::next(&mut list);
+            if record.call != 3 {
+                continue;
+            }
+            println!("{name}: encode record {records}");
+            record.encodes_by_export();
+            if record.answer.is_err() {
+                assert_eq!(
+                    (&record.side[..], &record.on[..]),
+                    (&[0xa5; 20][..], &[0xa5; 2][..])
+                );
+                let floats = [&record.coefficients[..], &record.gains[..]].concat();
+                assert_eq!(bits_of(&floats), [0xa5a5_a5a5; 20]);
+                refused += 1;
+            }
+            records += 1;
+        }
+    }
+    assert_eq!((records, refused), (168 + 117, 33));
+}
+
+/// Among the encode records of both lists are filters that are on, some of them damped, and filters that are off
+/// for each of the reasons.
+#[test]
+fn every_reason_is_met() {
+    let (mut on, mut damped, mut off) = (0, 0, [0; 4]);
+    for name in ["encode", "worked"] {
+        let mut list = List::of(name);
+        while list.more() {
+            let record = Record::next(&mut list);
+            let Some(Ok(got)) = record.encoded(&mut record.before.clone()) else {
+                continue;
+            };
+            for (filter, why) in got.gains.iter().zip(got.why_off()) {
+                damped += usize::from(filter.damping < 1.0);
+                match why {
+                    None => on += 1,
+                    Some(why) => off[why as usize] += 1,
+                }
+            }
+        }
+    }
+    assert_eq!((on, damped, off), (218, 16, [124, 26, 115, 21]));
+}
+
+/// A silent first band, and equal lines in the second, which is a click: as it is, near Nyquist, and with a NaN.
+#[test]
+fn reasons_of_a_filter() {
+    let mut lines = [0.0; 240];
+    lines[120..].fill(1000.0);
+    let of = |near_nyquist, mut lines: [f32; 240]| {
+        let (duration, bandwidth) = (Duration::SevenPointFiveMs, Bandwidth::SuperWideBand);
+        encode(duration, bandwidth, 320, near_nyquist, &mut lines).expect("accepted")
+    };
+    let [low, flag] = [Some(WhyOff::LowGain), Some(WhyOff::NearNyquist)];
+    let plain = of(false, lines);
+    let [silent, click] = plain.gains;
+    assert_eq!((silent.gain, silent.damping, silent.on), (1.0, 1.0, false));
+    assert!(click.gain > 2.0 && click.damping == 1.0 && click.on);
+    assert_eq!(plain.why_off(), [low, None]);
+    let near = of(true, lines);
+    let told = near.gains[1];
+    assert_eq!((told.gain, told.damping, told.on), (click.gain, 1.0, false));
+    assert_eq!(near.why_off(), [low, flag]);
+    lines[60] = f32::NAN;
+    let stray = of(true, lines);
+    assert!(stray.gains[0].gain.is_nan() && !stray.gains[0].on);
+    assert_eq!(stray.why_off(), [Some(WhyOff::NotANumber), flag]);
 }
 
 /// A refused decode call, which must leave the lines alone.

@@ -111,9 +111,18 @@ const ORDERS: [u8; 2] = [8, 0];
 const INDICES: [u8; 16] = [11, 7, 10, 8, 9, 7, 9, 7, 8, 8, 8, 8, 8, 8, 8, 8];
 /// Where states are saved and the decoder restarted: inside the band, and before large lines overflow.
 const LINE: usize = 14;
+/// What an encode call by the export finds where it writes besides the lines. Only a refused call leaves it.
+const LENT_BYTE: u8 = 0xa5;
+const LENT: f32 = -7.25;
 
 /// A call in an environment: what it did, and the word afterwards.
 type Call = fn(u32, &[f32]) -> (Outcome, u32);
+
+/// The bits of gains and dampings. A NaN has no bits of its own, so one pattern stands for all.
+fn gains_of(floats: &[f32]) -> impl Iterator<Item = u32> + '_ {
+    let pattern = |x: &f32| if x.is_nan() { 0x7fc0_0000 } else { x.to_bits() };
+    floats.iter().map(pattern)
+}
 
 fn by_encode(word: u32, lines: &[f32]) -> (Outcome, u32) {
     let mut lines = lines.to_vec();
@@ -126,6 +135,9 @@ fn by_encode(word: u32, lines: &[f32]) -> (Outcome, u32) {
     let bytes = bytes.chain(side.orders).chain(side.indices).map(u32::from);
     let said = [u32::from(encoded.bits)].into_iter().chain(bytes);
     let said = said.chain(bits_of(&encoded.coefficients));
+    let gains = encoded.gains.map(|of| [of.gain, of.damping]).concat();
+    let on = encoded.gains.map(|of| u32::from(of.on));
+    let said = said.chain(gains_of(&gains)).chain(on);
     (Outcome::new(said, &lines), after)
 }
 
@@ -214,9 +226,13 @@ fn by_cost_exact(word: u32, lines: &[f32]) -> (Outcome, u32) {
     )
 }
 
+/// How many numbers an encode call by the export says before its gains: answer, side data, coefficients.
+const BEFORE_GAINS: usize = 4 + 20 + 16;
+
 fn encode_unguarded(word: u32, lines: &[f32]) -> (Outcome, u32) {
     let mut lines = lines.to_vec();
-    let (mut side, mut coefficients) = ([0; 20], [0.0; 16]);
+    let (mut side, mut coefficients) = ([LENT_BYTE; 20], [LENT; 16]);
+    let (mut gains, mut on) = ([LENT; 4], [LENT_BYTE; 2]);
     let (answer, after) = within(word, || unsafe {
         unguarded::tns_encode(
             CODES.0,
@@ -227,14 +243,16 @@ fn encode_unguarded(word: u32, lines: &[f32]) -> (Outcome, u32) {
             lines.len(),
             &mut side,
             &mut coefficients,
+            &mut gains,
+            &mut on,
         )
     });
     let said = numbers(answer).into_iter().map(u32::from);
-    let said = said.chain(side.map(u32::from));
-    (
-        Outcome::new(said.chain(bits_of(&coefficients)), &lines),
-        after,
-    )
+    let said = said
+        .chain(side.map(u32::from))
+        .chain(bits_of(&coefficients));
+    let said = said.chain(gains_of(&gains)).chain(on.map(u32::from));
+    (Outcome::new(said, &lines), after)
 }
 
 fn decode_unguarded(word: u32, lines: &[f32]) -> (Outcome, u32) {
@@ -511,9 +529,25 @@ fn side_data_and_states_hang_on_the_environment() {
     let spectra = spectra();
     for word in masked() {
         for call in [encode_unguarded as Call, save_unguarded] {
-            let other = |x: &Vec<f32>| call(word, x).0.said != call(DEFAULT, x).0.said;
+            let said = |word, x: &Vec<f32>| {
+                let mut said = call(word, x).0.said;
+                said.truncate(BEFORE_GAINS);
+                said
+            };
+            let other = |x: &Vec<f32>| said(word, x) != said(DEFAULT, x);
             assert_eq!(spectra.iter().any(other), word != DEFAULT, "{word:#06x}");
         }
+    }
+}
+
+/// And the gains: gain, damping, on or off.
+#[test]
+fn gains_hang_on_the_environment() {
+    let spectra = spectra();
+    let gains = |word, x: &Vec<f32>| encode_unguarded(word, x).0.said.split_off(BEFORE_GAINS);
+    for word in masked() {
+        let other = |x: &Vec<f32>| gains(word, x) != gains(DEFAULT, x);
+        assert_eq!(spectra.iter().any(other), word != DEFAULT, "{word:#06x}");
     }
 }
 
@@ -553,6 +587,9 @@ fn refusals_and_cost_are_the_same_unguarded() {
             assert_eq!(refused.lines, before);
             let (refused, _) = encode_unguarded(word, short);
             assert_eq!(refused.said[..4], [3, 0, 0, 0]);
+            let (bytes, floats) = ([LENT_BYTE.into(); 20], [LENT.to_bits(); 20]);
+            let left = bytes.into_iter().chain(floats).chain([LENT_BYTE.into(); 2]);
+            assert_eq!(refused.said[4..], left.collect::<Vec<u32>>());
             assert_eq!(refused.lines, before[1..]);
             for call in [save_at_unguarded, restart_at_unguarded] {
                 let (refused, _) = call(LINES + 1, word, &lines);

@@ -141,6 +141,17 @@ pub fn coefficients_compared(list: i32, found: [f32; 16], earlier: bool) -> bool
     lines_compared(list, &found, earlier)
 }
 
+// Gain and damping of the first filter, then of the second.
+pub fn gains_compared(list: i32, found: [f32; 4], earlier: bool) -> bool {
+    lines_compared(list, &found, earlier)
+}
+
+// A byte for each filter: whether it is on.
+pub fn on_compared(list: i32, found: [u8; 2], earlier: bool) -> bool {
+    let different = byte_compared(list, found[0], earlier);
+    byte_compared(list, found[1], different)
+}
+
 pub fn states_compared(list: i32, found: [f32; 8], earlier: bool) -> bool {
     lines_compared(list, &found, earlier)
 }

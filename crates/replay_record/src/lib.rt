@@ -8,11 +8,13 @@ use law_numbers::least;
 use replay_list::coefficients_compared;
 use replay_list::compared;
 use replay_list::float_of;
+use replay_list::gains_compared;
 use replay_list::given;
 use replay_list::given_line;
 use replay_list::indices_of;
 use replay_list::line_compared;
 use replay_list::lines_compared;
+use replay_list::on_compared;
 use replay_list::orders_of;
 use replay_list::read_lines;
 use replay_list::say;
@@ -63,6 +65,8 @@ fn encode_compared(list: i32, call: Call, lines: &mut [f32]) -> bool {
     let lent = float_of(0xa5a5_a5a5);
     let mut side = [0xa5u8; 20];
     let mut coefficients = [lent; 16];
+    let mut gains = [lent; 4];
+    let mut on = [0xa5u8; 2];
     let answer = tns_encode(
         call.duration,
         call.bandwidth,
@@ -71,10 +75,14 @@ fn encode_compared(list: i32, call: Call, lines: &mut [f32]) -> bool {
         lines,
         &mut side,
         &mut coefficients,
+        &mut gains,
+        &mut on,
     );
     let a = answer_compared(list, answer);
     let b = side_compared(list, side, a);
-    coefficients_compared(list, coefficients, b)
+    let c = coefficients_compared(list, coefficients, b);
+    let d = gains_compared(list, gains, c);
+    on_compared(list, on, d)
 }
 
 // The answer to a cost or decode record.

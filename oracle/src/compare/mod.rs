@@ -10,4 +10,4 @@ pub mod refusals;
 mod same;
 pub mod strange;
 
-pub use same::{difference, first_change, first_difference, Differing};
+pub use same::{difference, first_change, first_difference, gains_difference, Differing};

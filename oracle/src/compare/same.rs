@@ -1,6 +1,6 @@
 //! Comparing lines and encoders' answers, and counting what differs.
 
-use crate::document::Outcome;
+use crate::document::{Gains, Outcome};
 use std::fmt::Debug;
 
 /// Counts what differs. All are counted, and the first few are shown.
@@ -52,4 +52,16 @@ pub fn difference(a: &Outcome, b: &Outcome) -> Option<String> {
     let n = first_difference(&a.lines, &b.lines)?;
     let (a, b) = (a.lines[n].to_bits(), b.lines[n].to_bits());
     Some(format!("line {n} {a:08X}, {b:08X}"))
+}
+
+/// The first thing that differs in what a call told of its filters: gain and damping
+/// of each, any NaN being equal to any other, and a byte for each that says whether
+/// it is on.
+pub fn gains_difference(wanted: &Gains, numbers: &[f32], on: &[u8]) -> Option<String> {
+    if let Some(n) = first_difference(&wanted.numbers(), numbers) {
+        let name = ["gain", "damping"][n % 2];
+        let (a, b) = (wanted.numbers()[n].to_bits(), numbers[n].to_bits());
+        return Some(format!("{name} of filter {} {a:08X}, {b:08X}", n / 2));
+    }
+    (wanted.on() != on).then(|| format!("on or off {:?}, {on:?}", wanted.on()))
 }

@@ -1,7 +1,9 @@
 //! docs/RULES.md written out in the harness: its rows, calls, refusals and rules,
-//! the decoder's lattice on a part of a frame ("Restart at a line (C-22)"), and the
-//! exact lattice. Nothing here is taken from the port.
+//! the encoder's analysis with its gains, the decoder's lattice on a part of a frame
+//! ("Restart at a line (C-22)"), and the exact lattice. Nothing here is taken from
+//! the port.
 
+pub mod analysis;
 mod calls;
 mod decoder;
 #[cfg(feature = "error")]
@@ -13,6 +15,7 @@ mod side;
 #[cfg(feature = "error")]
 pub mod whole;
 
+pub use analysis::{Gains, WhyOff};
 pub use calls::{Decode, Encode, Encoded, Mended, Outcome};
 pub use refusals::{Answer, ACCEPTED};
 pub use rows::{Row, ROWS};

@@ -52,30 +52,6 @@ pub fn index(thresholds: &[u32; 8], magnitude: u32, negative: bool) -> usize {
     }
 }
 
-/// The gain of the recursion over nine lags: r[0] divided by the error, if that
-/// is not zero.
-pub fn gain(lags: &[f32; 9]) -> f32 {
-    let mut a = [0.0f32; 9];
-    a[0] = 1.0;
-    let mut error = lags[0];
-    for k in 1..9 {
-        let before = a;
-        let mut rc = 0.0;
-        for n in 0..k {
-            rc -= before[n] * lags[k - n];
-        }
-        if error != 0.0 {
-            rc /= error;
-        }
-        for n in 1..k {
-            a[n] = before[n] + rc * before[k - n];
-        }
-        a[k] = rc;
-        error *= 1.0 - rc * rc;
-    }
-    lags[0] / if error == 0.0 { 1.0 } else { error }
-}
-
 /// One line through the stages of the encoder's lattice, in any numbers:
 /// `plus(a, q, x)` is a + q x.
 pub fn lattice<N: Copy, Q: Copy>(

@@ -110,7 +110,7 @@ fn fill(random: &mut Random, row: &Row, kind: usize, lines: &mut [f32]) {
 }
 
 /// The bit numbers: around the weighting limit, small, large.
-fn bit_number(random: &mut Random, row: &Row) -> u64 {
+pub fn bit_number(random: &mut Random, row: &Row) -> u64 {
     match random.below(12) {
         0..=4 => row.limit() - 2 + random.below(5) as u64,
         5..=7 => random.below(row.limit() as usize) as u64,

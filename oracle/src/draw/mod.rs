@@ -9,6 +9,7 @@ pub mod hard;
 mod numbers;
 mod random;
 pub mod refused;
+pub mod sizes;
 pub mod spectra;
 pub mod steer;
 

@@ -1,7 +1,8 @@
 //! D's and E's answers to a call, and what the rules (docs/RULES.md) say instead where
 //! they differ from them.
 
-use crate::document::{rules, Decode, Encode, Encoded, Outcome, Side};
+use crate::document::{analysis::Analysis, rules};
+use crate::document::{Decode, Encode, Encoded, Gains, Outcome, Side};
 use crate::original::build::Build;
 use crate::original::caught::caught;
 
@@ -77,15 +78,25 @@ impl Build {
         (self.reflection)(row.duration, row.bandwidth, near, weighting, &call.lines)
     }
 
-    /// E's gain of a filter.
+    /// The analysis of a filter by the rules over E's own lags. E gives neither gain
+    /// nor damping out.
+    pub fn analysis(&self, call: &Encode, filter: usize) -> Analysis {
+        call.analysis(&self.lags_of(call, filter))
+    }
+
+    /// The records of both filters, in the same way.
+    pub fn gains(&self, call: &Encode) -> Gains {
+        call.gains(|filter| self.lags_of(call, filter))
+    }
+
+    /// The gain of a filter, in the same way.
     pub fn gain(&self, call: &Encode, filter: usize) -> f32 {
+        self.analysis(call, filter).record.gain
+    }
+
+    fn lags_of(&self, call: &Encode, filter: usize) -> [f32; 9] {
         let row = call.row;
-        rules::gain(&(self.lags)(
-            row.duration,
-            row.bandwidth,
-            filter,
-            &call.lines,
-        ))
+        (self.lags)(row.duration, row.bandwidth, filter, &call.lines)
     }
 
     /// The answer that the port must give, made of E's, and how it was had.

@@ -20,7 +20,7 @@ pub use cost::costs;
 #[cfg(any(feature = "decode", feature = "lc3"))]
 pub use decoder::{decode, decode_lines};
 #[cfg(any(feature = "encode", feature = "lc3"))]
-pub use encoder::{encode_lines, Loan};
+pub use encoder::{encode_lines, Beside, Loan};
 #[cfg(feature = "index")]
 pub use index::index;
 pub use lent::Lent;

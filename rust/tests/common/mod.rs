@@ -87,9 +87,12 @@ pub struct Record {
     pub output: Vec<f32>,
     pub states: Vec<f32>,
     pub answer: Result<u16, Refusal>,
-    /// Only in encode records, these two.
+    /// Only in encode records, these four. The gains are gain and damping of the first filter, then of the
+    /// second; a filter that is on has 1 in the last list.
     pub side: Vec<u8>,
     pub coefficients: Vec<f32>,
+    pub gains: Vec<f32>,
+    pub on: Vec<u8>,
     /// Only in save and restart records.
     pub states_after: Vec<f32>,
     /// The lines afterwards; of a save or a restart those of the output.
@@ -137,6 +140,8 @@ impl Record {
             answer,
             side: (0..20 * encodes).map(|_| list.number(4) as u8).collect(),
             coefficients: list.floats(16 * encodes),
+            gains: list.floats(4 * encodes),
+            on: (0..2 * encodes).map(|_| list.number(4) as u8).collect(),
             states_after: list.floats(8 * restarts),
             after: list.floats(m),
         }

@@ -1,15 +1,19 @@
 //! The word `encode`: E against the port's encoder in every field and line, bit
-//! by bit, where any NaN equals any other; then the refusals. The two
-//! intended differences between docs/RULES.md and E are counted by themselves.
+//! by bit, where any NaN equals any other; the gains of every frame against the
+//! rules; then the refusals. The two intended differences between docs/RULES.md and
+//! E are counted by themselves.
 
+mod asked;
+mod gains;
 mod refusals;
+mod sizes;
 
 use crate::compare::{difference, first_difference, Differing};
-use crate::document::{Answer, Encode, Outcome, ACCEPTED, ROWS};
+use crate::document::{Encode, Outcome, ROWS};
 use crate::draw::encoder::{self, draw, draw_any, GAIN_DAMPED, GAIN_ON, KINDS, THRESHOLD};
 use crate::draw::{say_seed, steer::is_threshold, Random, SEED};
 use crate::original::{both, Build, How};
-use crate::port::Loan;
+use crate::words::encode::asked::Asked;
 use std::collections::BTreeMap;
 
 const DRAWS: usize = 250_000;
@@ -29,8 +33,8 @@ struct OfRow {
 #[derive(Default)]
 struct Tally {
     frames: u64,
-    differ: Differing,
-    guards: u64,
+    asked: Asked,
+    gains: gains::Tally,
     unknown_panics: u64,
     run_on: u64,
     at_one: [u64; 2],
@@ -42,7 +46,7 @@ struct Tally {
     /// By kind: frames, frames with an active filter.
     kinds: [[u64; 2]; KINDS],
     /// Gains below, at and above the limit, at most 8 f32s away: 1.5, 2.
-    gains: [[u64; 3]; 2],
+    near_limit: [[u64; 3]; 2],
     at_threshold: u64,
 }
 
@@ -56,20 +60,9 @@ impl Tally {
             self.unknown_panics += 1;
             return;
         };
-        let mut loan = Loan::new(&call.lines);
-        let answer = loan.ask(call);
-        self.guards += u64::from(!loan.guards_stand());
-        let bits = answer.bits;
-        let what = if answer == (Answer { bits, ..ACCEPTED }) {
-            difference(&wanted, &loan.outcome(bits))
-        } else {
-            Some(format!("{answer:?}"))
-        };
-        self.differ.take(what.is_some(), || {
-            let (row, kind, length) = (call.row.name(), encoder::name(call.kind), call.lines.len());
-            let (bits, near, what) = (call.bits, call.near_nyquist, what.unwrap_or_default());
-            format!("encode: {row} with {length} lines, {kind}, bit number {bits}, near Nyquist {near}: wanted, given: {what}")
-        });
+        let kind = encoder::name(call.kind);
+        let loan = self.asked.ask(call, &wanted, kind);
+        self.gains.take(build, call, &loan, kind);
         self.count(build, call, &wanted, how);
     }
 
@@ -122,12 +115,12 @@ impl Tally {
             }
             How::Original => {}
         }
-        for (kind, limit, gains) in [(GAIN_ON, 1.5f32, 0), (GAIN_DAMPED, 2.0, 1)] {
+        for (kind, limit, near) in [(GAIN_ON, 1.5f32, 0), (GAIN_DAMPED, 2.0, 1)] {
             if call.kind == kind {
                 for filter in 0..row.bands.len() {
                     let away = build.gain(call, filter).to_bits() as i64 - limit.to_bits() as i64;
                     if away.abs() <= 8 {
-                        self.gains[gains][(away.signum() + 1) as usize] += 1;
+                        self.near_limit[near][(away.signum() + 1) as usize] += 1;
                     }
                 }
             }
@@ -165,15 +158,18 @@ impl Tally {
         println!("encode: frames by kind (with a filter on): {kinds}");
         let Tally {
             frames,
-            differ: Differing(differ),
-            guards,
+            asked:
+                Asked {
+                    differ: Differing(differ),
+                    guards,
+                },
             unknown_panics,
             run_on,
             at_one: [one, minus_one],
             rule_differs,
             builds_differ,
             builds_differ_elsewhere,
-            gains: [on, damped],
+            near_limit: [on, damped],
             at_threshold,
             ..
         } = self;
@@ -222,6 +218,8 @@ pub fn run() -> bool {
         let take = |call: &Encode| tally.take(&builds, call);
         draw_any(&mut random, &builds[0], row, take);
     }
-    let good = tally.print();
+    let mut good = tally.print();
+    good &= sizes::run(&builds[0], &mut tally.gains);
+    good &= tally.gains.print();
     refusals::run(&builds[0]) && good
 }

@@ -1,10 +1,10 @@
 //! The list `encode`: whole encoder calls with E's answers. E and docs/RULES.md
 //! differ by intent on 10 ms bandwidth 2 with a filter on, where lines 200 to 239
 //! are those of E's lattice run on, and at coefficients of exactly 1 or -1; such
-//! calls are left out.
+//! calls are left out. E gives no gains out: those are the rule's over E's lags.
 
 use crate::compare::difference;
-use crate::document::{Encode, Outcome, Row, ROWS};
+use crate::document::{Encode, Gains, Outcome, Row, ROWS};
 use crate::draw::encoder::{draw, ACTIVE, GAIN_DAMPED, GAIN_ON, KINDS, SILENCE, THRESHOLD};
 use crate::draw::{steer::is_threshold, Random, SEED};
 use crate::original::{Build, How};
@@ -115,10 +115,17 @@ fn listed(call: &Encode, build: &Build) -> Option<Outcome> {
     (how != How::AtOne).then_some(outcome)
 }
 
-fn push(list: &mut List, call: &Encode, Outcome { said, lines }: &Outcome) {
+fn push(list: &mut List, call: &Encode, Outcome { said, lines }: &Outcome, gains: &Gains) {
     let (row, near) = (call.row, u8::from(call.near_nyquist));
-    let side: Vec<u32> = said.side.record().map(u32::from).to_vec();
-    let left = [side, patterns(&said.coefficients), patterns(lines)].concat();
+    let words = |bytes: &[u8]| -> Vec<u32> { bytes.iter().map(|byte| (*byte).into()).collect() };
+    let left = [
+        words(&said.side.record()),
+        patterns(&said.coefficients),
+        patterns(&gains.numbers()),
+        words(&gains.on()),
+        patterns(lines),
+    ];
+    let left = left.concat();
     let head = [ENCODE, row.duration, row.bandwidth, near, 0];
     let given = Given::BitNumber(call.bits);
     list.push(head, given, &bits_of(&call.lines), said.bits, &left);
@@ -145,7 +152,7 @@ pub fn run(builds: &[Build; 2], root: &Path) -> bool {
         let other = listed(call, libm);
         let differs = other.is_none_or(|other| difference(outcome, &other).is_some());
         list.differ += usize::from(differs);
-        push(&mut list, call, outcome);
+        push(&mut list, call, outcome, &std.gains(call));
     }
     list.write(root, "encode", &format!(", {active} with a filter on")) && search.failed == 0
 }

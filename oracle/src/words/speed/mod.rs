@@ -25,7 +25,7 @@ use crate::document::{Row, Side, ACCEPTED, ROWS};
 use crate::draw::{bands::bands, Random, SEED};
 use crate::liblc3::{analyze, synthesize, Data};
 use crate::original::{both, Build};
-use crate::port::{decode_lines, encode_lines, restart_lines, save_lines, Numbers};
+use crate::port::{decode_lines, encode_lines, restart_lines, save_lines, Beside, Numbers};
 use gillsextant::{Bandwidth, Duration};
 use std::ffi::CString;
 use std::hint::black_box;
@@ -202,37 +202,57 @@ fn second_opinion(first: &Side, second: &Side) -> Side {
     opinion
 }
 
+/// What an encode call writes beside the lines.
+#[derive(Clone, Default)]
+struct Written {
+    side: [u8; 20],
+    coefficients: [f32; 16],
+    gains: [f32; 4],
+    on: [u8; 2],
+}
+
+impl Written {
+    fn lend(&mut self) -> Beside<'_> {
+        Beside {
+            side: &mut self.side,
+            coefficients: &mut self.coefficients,
+            gains: &mut self.gains,
+            on: &mut self.on,
+        }
+    }
+}
+
 fn encode(sink: &mut Sink, row: &Row, build: &Build, what: &str, flag: bool, frames: Vec<Lines>) {
     let (d, w) = (row.duration, row.bandwidth);
     let (duration, bandwidth) = (DURATIONS[d as usize], BANDWIDTHS[w as usize]);
     let mut frames = Frames::new(frames, row);
-    let (mut side, mut coefficients) = ([0; 20], [0.0; 16]);
+    let mut written = Written::default();
     let mut met = Vec::new();
     frames.refill();
     for (used, fresh) in frames.used.iter_mut().zip(&frames.fresh) {
         let lines = &mut used.0[..frames.length];
-        let answer = encode_lines(d, w, BITS, flag, lines, &mut side, &mut coefficients);
+        let answer = encode_lines(d, w, BITS, flag, lines, written.lend());
         lines.copy_from_slice(&fresh.0[..frames.length]);
         let original = (build.encode)(d, w, BITS, flag, lines);
         assert_eq!(answer.refusal, 0, "the port refuses a frame of the bench");
-        assert_eq!(side, original.side.record(), "the port and E differ");
+        let side = &written.side;
+        assert_eq!(*side, original.side.record(), "the port and E differ");
         met.extend(side[2..2 + row.bands.len()].iter().map(u8::to_string));
     }
     met.sort_unstable();
     met.dedup();
-    let (mut guarded_side, mut guarded_coefficients) = (side, coefficients);
+    let mut guarded = written.clone();
     measure(
         sink,
         (&format!("encode\t{d}\t{w}\t{what}"), &met.join(" ")),
         &mut frames,
         (
             |lines: &mut [f32]| {
-                let (side, coefficients) = (&mut side, &mut coefficients);
-                black_box(encode_lines(d, w, BITS, flag, lines, side, coefficients));
+                black_box(encode_lines(d, w, BITS, flag, lines, written.lend()));
             },
             |lines: &mut [f32]| {
-                let (side, coefficients) = (&mut guarded_side, &mut guarded_coefficients);
-                let call = move || encode_lines(d, w, BITS, flag, lines, side, coefficients);
+                let beside = guarded.lend();
+                let call = move || encode_lines(d, w, BITS, flag, lines, beside);
                 black_box(float::in_default(call));
             },
             |lines: &mut [f32]| {
