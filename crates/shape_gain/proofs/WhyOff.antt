@@ -5,7 +5,7 @@ use mathlib.Core.Bool.{Bool, true, false}
 use Prim.Native.Nat.{ℕ}
 use lib.Ieee.{Float, lt}
 use Rattle.law_rounding.specs.Floats.{f1}
-use Rattle.shape_gain.specs.Gain.{f1-5, gainOf, isOn, dampingOf, gainRecord}
+use Rattle.shape_gain.specs.Gain.{f1-5, isOn, dampingOf, gainRecord}
 
 -- a gain over 1.5 is off by the flag alone
 pub off-by-flag : (r0 error : Float) (flag : Bool) (weighting : ℕ) → gainRecord r0 error flag weighting .on ≡ false
