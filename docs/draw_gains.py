@@ -1,14 +1,15 @@
 #!/usr/bin/env python3
 """Draws docs/gains.svg: the gain of each filter over the frames of a voice, and which frames are on.
 
-    docs/draw_gains.py [--samples FILE [--from SECONDS] [--to SECONDS]] [--output FILE]
+    docs/draw_gains.py [--output PICTURE]
+    docs/draw_gains.py --samples FILE [--from SECONDS] [--to SECONDS] --output PICTURE
 
-The voice is a short sentence that this script makes. With --samples it is a recorded one: 16-bit samples,
-lowest byte first, one channel, 32 kHz; --from and --to choose a stretch of it. With --output the picture
-goes to FILE instead of docs/gains.svg.
+The voice is a short sentence that this script makes. With --samples it is a recorded one: a WAV file, or
+its bare samples, lowest byte first, with 16 bits, one channel and 32 kHz in either case. --from and --to
+choose a stretch of it. The picture goes to docs/gains.svg, or to PICTURE.
 
 A plain MDCT makes frames of 320 lines from the samples, and examples/gains.c prints what tns_encode tells
-about each. Standard output gets how many frames were on, on and damped, and off. The script's own voice
+about each. Standard output gets how many frames were on, damped among them, and off. The script's own voice
 must show all three for each filter, and each burst must switch both filters on; else nothing is drawn and
 the status is 1.
 
@@ -27,6 +28,7 @@ import shlex
 import struct
 import subprocess
 import sys
+import wave
 from xml.sax.saxutils import escape
 
 ROOT = pathlib.Path(__file__).resolve().parent.parent
@@ -177,12 +179,26 @@ def timed():
     return words, letters, bursts
 
 
-def read_samples(path, start, end):
-    """The samples of a stretch, and the frame that it starts with."""
+def sample_bytes(path):
+    """The samples of a file, which is a WAV file if it says so at its start."""
     try:
         data = pathlib.Path(path).read_bytes()
+        if data[:4] != b"RIFF":
+            return data
+        with wave.open(str(path)) as file:
+            found = file.getnchannels(), 8 * file.getsampwidth(), file.getframerate()
+            if found != (1, 16, RATE):
+                fail(f"{path} has {found[0]} channels of {found[1]} bits at {found[2]} Hz, not 1 of 16 at {RATE}")
+            return file.readframes(file.getnframes())
     except OSError as error:
         fail(f"cannot read {path}: {error.strerror}")
+    except (EOFError, wave.Error) as error:
+        fail(f"cannot read {path} as a WAV file: {str(error) or 'it is cut short'}")
+
+
+def read_samples(path, start, end):
+    """The samples of a stretch, and the frame that it starts with."""
+    data = sample_bytes(path)
     if len(data) % 2:
         fail(f"{path} is not a list of 16-bit samples: it has an odd number of bytes")
     first = round(start * RATE / LINES)
@@ -327,7 +343,9 @@ def down(top, gain):
 
 
 def counts(points):
-    return ", ".join(f"{count(points, state)} {words}" for state, words in STATES.items())
+    """Those that are on have the damped ones among them."""
+    on, damped, off = (count(points, state) for state in STATES)
+    return f"{on + damped} on ({damped} damped), {off} off"
 
 
 class Drawing:
@@ -466,13 +484,21 @@ def seconds(word):
 
 def main():
     words = argparse.ArgumentParser(description="Draws the gain of each filter over the frames of a voice.")
-    words.add_argument("--samples", metavar="FILE", help="a recorded voice: 16-bit samples, one channel, 32 kHz")
+    words.add_argument(
+        "--samples",
+        metavar="FILE",
+        help="a recorded voice: a WAV file or bare samples, lowest byte first; 16 bits, one channel, 32 kHz",
+    )
     words.add_argument("--from", dest="start", metavar="SECONDS", type=seconds, help="where its stretch starts")
     words.add_argument("--to", dest="end", metavar="SECONDS", type=seconds, help="where its stretch ends")
-    words.add_argument("--output", metavar="FILE", default=PICTURE, help="instead of docs/gains.svg")
+    words.add_argument("--output", metavar="PICTURE", help="instead of docs/gains.svg; needed with --samples")
     asked = words.parse_args()
     if asked.samples is None and (asked.start, asked.end) != (None, None):
         words.error("--from and --to need --samples")
+    # The repository's picture is that of the script's own voice.
+    if asked.samples is not None and asked.output is None:
+        words.error("--samples needs --output")
+    output = asked.output or PICTURE
 
     program = build()
     if asked.samples is None:
@@ -499,9 +525,9 @@ def main():
     ]
     picture = Drawing(samples, first, filters, spoken).svg(title, says, notes)
     try:
-        pathlib.Path(asked.output).write_text(picture, encoding="utf-8")
+        pathlib.Path(output).write_text(picture, encoding="utf-8")
     except OSError as error:
-        fail(f"cannot write {asked.output}: {error.strerror}")
+        fail(f"cannot write {output}: {error.strerror}")
     print(found)
 
 

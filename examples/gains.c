@@ -8,7 +8,6 @@
  * and damping get nine digits, enough to read the same f32 back. The status is 1 if an answer is not as it
  * must be, if the file cannot be read or if it ends inside a frame, and 2 for wrong words. */
 #include <errno.h>
-#include <math.h>
 #include <stdio.h>
 #include <stdlib.h>
 #include <string.h>
@@ -17,23 +16,33 @@
 
 enum { DURATION = 0, NB = 0, SWB = 3, NB_LINES = 80, LINES = 320 };
 
+/* The gain's bits tell: a program built with -ffast-math takes isnan for false. */
+static bool is_nan(float x)
+{
+    uint32_t bits;
+    memcpy(&bits, &x, sizeof bits);
+    return (bits & 0x7fffffff) > 0x7f800000;
+}
+
 /* Why filter 0 or 1 is off, or "-" if it is on. filters is side[1]; gain and on are what the call wrote for
  * this filter. If several reasons hold, the first one stands. */
 static const char *why_off(int filter, int filters, float gain, int on)
 {
+    if (on)
+        return "-";
     if (filter >= filters)
         return "no such band";
-    if (isnan(gain))
+    if (is_nan(gain))
         return "gain is not a number";
-    if (!(gain > 1.5f))
-        return "gain is not over 1.5";
-    return on ? "-" : "near-Nyquist flag";
+    return gain > 1.5f ? "near-Nyquist flag" : "gain is not over 1.5";
 }
 
-/* The gain to print. A NaN may have a sign, which printf would show. */
-static double printed(float gain)
+/* A gain in text. A NaN may have a sign, which printf would show. */
+static const char *printed(const char *form, float gain)
 {
-    return (double)(isnan(gain) ? NAN : gain);
+    static char text[32];
+    snprintf(text, sizeof text, form, (double)gain);
+    return is_nan(gain) ? "nan" : text;
 }
 
 /* Each line is a part of the line below it, plus noise. A burst within a frame makes lines like these: the
@@ -68,6 +77,7 @@ static const struct {
 
 static int show_made(void)
 {
+    const uint32_t nan_bits = 0x7fc00000;
     float lines[LINES], coefficients[16], gains[4];
     uint8_t side[20], on[2];
     int wrong = 0;
@@ -75,7 +85,7 @@ static int show_made(void)
     for (size_t i = 0; i < sizeof made / sizeof *made; i++) {
         make_lines(made[i].part, lines);
         if (made[i].has_nan)
-            lines[50] = NAN; /* in the first band */
+            memcpy(&lines[50], &nan_bits, sizeof nan_bits); /* in the first band */
         tns_answer a = tns_encode(DURATION, made[i].bandwidth, made[i].bits, made[i].near_nyquist, lines,
                                   made[i].bandwidth == NB ? NB_LINES : LINES, side, coefficients,
                                   gains, on);
@@ -83,7 +93,7 @@ static int show_made(void)
         for (int f = 0; f < 2; f++) {
             float gain = gains[2 * f], damping = gains[2 * f + 1];
             const char *why = why_off(f, side[1], gain, on[f]);
-            printf("%-22s%6d%8.3f%9.3f  %s%s\n", made[i].name, f, printed(gain), (double)damping,
+            printf("%-22s%6d%8s%9.3f  %s%s\n", made[i].name, f, printed("%.3f", gain), (double)damping,
                    on[f] ? "on" : "off: ", !on[f] ? why : damping < 1 ? ", damped" : "");
             wrong += strcmp(why, made[i].why[f]) != 0 || on[f] != (*why == '-');
             wrong += made[i].damped ? !(0.85f < damping && damping < 1) : damping != 1;
@@ -111,8 +121,8 @@ static int show_file(FILE *file, uint64_t bits)
         if (tns_encode(DURATION, SWB, bits, false, lines, LINES, side, coefficients, gains, on).refusal)
             return 1;
         for (int f = 0; f < 2; f++)
-            printf("%ld,%d,%.9g,%.9g,%d,%s\n", frame, f, printed(gains[2 * f]), (double)gains[2 * f + 1],
-                   on[f], why_off(f, side[1], gains[2 * f], on[f]));
+            printf("%ld,%d,%s,%.9g,%d,%s\n", frame, f, printed("%.9g", gains[2 * f]),
+                   (double)gains[2 * f + 1], on[f], why_off(f, side[1], gains[2 * f], on[f]));
     }
     if (ferror(file))
         perror("gains: cannot read");

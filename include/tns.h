@@ -6,9 +6,11 @@
  * was. Calls share no state, so several threads may call at the same time. docs/CONTRACTS.md has the
  * promises, docs/RULES.md the rules.
  *
- * Changed since the version before: tns_encode has two more parameters at its end, gains and on. Nothing
- * else changed. Compile every file that calls tns_encode again: an object file made with the older header
- * still links, but passes two pointers too few, and the call would write to wherever they seem to point.
+ * This is version 0.2.0. Changed since 0.1.0: tns_encode has two more parameters at its end, gains and on
+ * (C-18). Nothing else changed. Build the archive anew, and compile every file that calls tns_encode again.
+ * C does not notice a mix of old and new, which links. An older object file with this archive passes two
+ * pointers too few, and the call writes to wherever they seem to point. A newer one with an older archive
+ * gets no gains.
  *
  * Three things C cannot check, so the caller must:
  *
@@ -118,14 +120,14 @@ static inline void tns_float_leave(uint32_t callers)
  *     1. the second filter, and the filter count is 1 (bandwidths 0 to 2): the row has no band for it.
  *        Then the gain is 0 and the damping 1.
  *     2. the gain is not a number, for instance because a line of the band is NaN or infinite, or so
- *        large that its square is.
+ *        large that its square is. (With -ffast-math isnan is always false: look at the bits.)
  *     3. the gain is not over 1.5.
  *     4. else it is near_nyquist.
  *
  * The damping is below 1 only if the filter is on, the weighting is 1 and the gain is below 2: it falls
- * from 1 at gain 2 to 0.85 at gain 1.5. A filter that is off has order 0. One that is on can have order 0
- * too, if all its coefficients are quantized to 0. A refused call leaves gains and on as they were.
- * examples/gains.c prints gains with the reasons. docs/RULES.md, "Gains (C-18)".
+ * from 1 at gain 2 to 0.85 just over gain 1.5. A filter that is off has damping 1 and order 0. One that is
+ * on can have order 0 too, if all its coefficients are quantized to 0. A refused call leaves gains and on
+ * as they were. examples/gains.c prints gains with the reasons. docs/RULES.md, "Gains (C-18)".
  *
  * If every line is finite and at most 2^m in absolute value, for a whole m from -126 to 119, then each
  * filtered line is within 2^(m-13) of what the same filter gives without rounding. */

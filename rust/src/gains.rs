@@ -6,19 +6,25 @@ use core::fmt;
 /// What the analysis of a frame says about a filter. If the frame's bandwidth has no second band, the second
 /// filter has gain 0 and damping 1 and is off.
 ///
-/// A gain that is not a number is a NaN, which is not equal to itself: compare its bits, or ask
-/// [`f32::is_nan`].
-#[derive(Clone, Copy, Debug, PartialEq)]
+/// Two gains that are not a number count as equal, so that equal calls have equal results.
+#[derive(Clone, Copy, Debug)]
 pub struct FilterGain {
     /// The prediction gain: how much better the filter predicts a line from those below it than no filter
     /// does. It is given whether the filter is on or off.
     pub gain: f32,
     /// The coefficients' damping. It is below 1 only if the filter is on, the weighting is 1 and the gain is
-    /// below 2: it falls from 1 at gain 2 to 0.85 at gain 1.5.
+    /// below 2: it falls from 1 at gain 2 to 0.85 just over gain 1.5.
     pub damping: f32,
     /// Whether the filter is on: the gain is over 1.5, and the frame was not encoded as near Nyquist. The
     /// order of a filter that is on can still be 0, if all its coefficients are quantized to 0.
     pub on: bool,
+}
+
+impl PartialEq for FilterGain {
+    fn eq(&self, other: &Self) -> bool {
+        let same = self.gain == other.gain || (self.gain.is_nan() && other.gain.is_nan());
+        same && self.damping == other.damping && self.on == other.on
+    }
 }
 
 /// Why a filter is off. If several reasons hold, the first of them stands, in the order here.

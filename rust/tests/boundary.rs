@@ -497,6 +497,31 @@ fn encoded_spectra_come_back() {
     assert_eq!(filtered, 117);
 }
 
+/// A gain that is not a number is equal to another such gain and to nothing else.
+#[test]
+fn equal_calls_have_equal_results() {
+    let encoded = |first: f32, near_nyquist: bool| {
+        let mut lines: Vec<f32> = (0..400).map(|n| 1000.0 * 0.95f32.powi(n)).collect();
+        lines[20] = first;
+        encode(
+            Duration::TenMs,
+            Bandwidth::FullBand,
+            320,
+            near_nyquist,
+            &mut lines,
+        )
+        .unwrap()
+    };
+    let strange = encoded(f32::NAN, true);
+    assert!(strange.gains[0].gain.is_nan());
+    assert_eq!(strange, encoded(f32::INFINITY, true));
+    let plain = encoded(1.0, true);
+    assert_eq!(plain, encoded(1.0, true));
+    assert_eq!(plain.side, strange.side);
+    assert_ne!(plain, strange);
+    assert_ne!(encoded(1.0, false).gains[0], plain.gains[0]);
+}
+
 /// Equal lines are a click. The encoder writes index 0 for it: at full band in the second filter, at 12 kHz in
 /// the first. If index 0 meant coefficient 0, as in lc3-codec 0.2.0, the decoder would smear the click.
 #[test]

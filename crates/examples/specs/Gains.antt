@@ -2,7 +2,7 @@
 -- call tells of a silent frame without a second band, and of a frame that it refuses.
 use mathlib.Core.Path.{_≡_, refl}
 use mathlib.Core.Bool.{Bool, true, false, _&&_}
-use mathlib.Core.List.{List, [], _∷_, map}
+use mathlib.Core.List.{List, [], _∷_}
 use Prim.Native.Nat.{ℕ}
 use lib.Dec.{eqb}
 use lib.ListN.{replicate}
@@ -22,6 +22,7 @@ use Rattle.shape_gain.specs.declared.Gains.{Gains}
 use Rattle.shape_filter.specs.Analysis.{filterRecord}
 use Rattle.shape_frame.specs.FrameSide.{gainsOf}
 use Rattle.call_encode.specs.Encoder.{encodeVerdict, gainsFound, gainsIn}
+use Rattle.examples.specs.Worked.{patterns}
 
 -- the error that the recursion leaves of lag 0, which is 3; the flag, the weighting; gain, damping, and 1 if the filter is on
 pub data Case : Type 0 where
@@ -55,9 +56,6 @@ gain-cases-hold = refl
 -- So many lines of 0, at 10 ms and bandwidth 0, for 320 bits: gain and damping of both filters, and whether each is on. 79 lines are refused.
 abbrev told : ℕ → Gains
 told lines = let silence = replicate lines f0 in gainsIn (encodeVerdict 0 0 320 false silence) (gainsFound 0 0 320 false silence)
-
-abbrev patterns : List Float → List ℕ
-patterns xs = map (toBits binary32) xs
 
 pub record Told : Type 0 where
   pub silent : patterns (gainNumbers (told 80)) ≡ 0x3f800000 ∷ 0x3f800000 ∷ 0x00000000 ∷ 0x3f800000 ∷ []

@@ -40,7 +40,7 @@ use Rattle.side_data.specs.declared.SideData.{SideData}
 abbrev floats : List ℕ → List Float
 floats patterns = map (ofBits binary32) patterns
 
-abbrev patterns : List Float → List ℕ
+abbrev pub patterns : List Float → List ℕ
 patterns xs = map (toBits binary32) xs
 
 -- ---- the frame
