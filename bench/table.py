@@ -222,7 +222,7 @@ def main():
     print("guard: the port by its exports, by the same inside the Rust crate's guard of the float")
     print("environment, and by the crate's functions; what the guard and the crate take over the")
     print("exports, in ns and as a ratio; instructions. The crate also hands the answer over as a")
-    print("Result, the encoder's with its side data and coefficients.")
+    print("Result, the encoder's with its side data, coefficients and gains.")
     print()
     print_own(encode + decode, times, counts)
     print("marks")

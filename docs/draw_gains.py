@@ -92,7 +92,7 @@ SENTENCE = [
 
 
 class Noise:
-    """Numbers from -1 to 1. The generator is the script's own, so that every Python draws the same."""
+    """Numbers from -1 to 1. The generator is the script's own, so that every Python draws the same numbers."""
 
     def __init__(self):
         self.state = 1

@@ -6,11 +6,11 @@
  * was. Calls share no state, so several threads may call at the same time. docs/CONTRACTS.md has the
  * promises, docs/RULES.md the rules.
  *
- * This is version 0.2.0. Changed since 0.1.0: tns_encode has two more parameters at its end, gains and on
- * (C-18). Nothing else changed. Build the archive anew, and compile every file that calls tns_encode again.
- * C does not notice a mix of old and new, which links. An older object file with this archive passes two
- * pointers too few, and the call writes to wherever they seem to point. A newer one with an older archive
- * gets no gains.
+ * This is version 0.2.0. One thing changed since the last 0.1.0 (C-15): tns_encode has two more parameters
+ * at its end, gains and on (C-18). Build the archive anew, and compile every file that calls tns_encode
+ * again. C does not notice a mix of old and new, which links. An older object file with this archive passes
+ * two pointers too few, and the call writes to wherever they seem to point. A newer one with an older
+ * archive gets no gains.
  *
  * Three things C cannot check, so the caller must:
  *
@@ -120,7 +120,7 @@ static inline void tns_float_leave(uint32_t callers)
  *     1. the second filter, and the filter count is 1 (bandwidths 0 to 2): the row has no band for it.
  *        Then the gain is 0 and the damping 1.
  *     2. the gain is not a number, for instance because a line of the band is NaN or infinite, or so
- *        large that its square is. (With -ffast-math isnan is always false: look at the bits.)
+ *        large that its square is infinite. (With -ffast-math isnan is always false: look at the bits.)
  *     3. the gain is not over 1.5.
  *     4. else it is near_nyquist.
  *

@@ -504,7 +504,7 @@ def gains_at_limits():
 
 
 # Bandwidth 3, whose bands are 9 to 120 and 120 to 240, in three parts each. What a band
-# may hold: lines that lean much, lines that lean little, and one line in each part.
+# may hold: lines that can be predicted well, lines that can be predicted a little, and one line in each part.
 PARTS = [(37, 36, 38), (39, 41, 40)]
 
 
@@ -545,7 +545,7 @@ def gains_of_two_bands():
 
 
 def gains_of_strays():
-    """Lines that are not finite, huge or subnormal, among lines that lean much."""
+    """Lines that are not finite, huge or subnormal, among lines that can be predicted well."""
 
     def lines(changed, **more):
         return two_bands(much, much, changed, **more)

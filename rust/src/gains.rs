@@ -33,7 +33,7 @@ pub enum WhyOff {
     /// The frame's bandwidth has no band for this filter.
     NoBand,
     /// The gain is not a number, for instance because a line of the band is NaN or infinite, or so large
-    /// that its square is.
+    /// that its square is infinite.
     NotANumber,
     /// The gain is not over 1.5.
     LowGain,

@@ -38,10 +38,11 @@ encodeVerdict duration bandwidth nbits flag lines =
 abbrev pub sideIn : Verdict SideData → SideData
 sideIn verdict = unlessRefused verdict (λ side. side) noSide
 
--- the gain, damping and on/off answer of both filters that the analysis of the call's lines gives; a refusal gives no other results
+-- the gain, damping and on/off answer of both filters that the analysis of the call's lines gives
 abbrev pub gainsFound : ℕ → ℕ → ℕ → Bool → List Float → Gains
 gainsFound duration bandwidth nbits flag lines = gainsOf (rowOf (durationOf duration) bandwidth) lines flag (weightingIn duration nbits)
 
+-- those of an accepted call; a refusal gives no other results
 abbrev pub gainsIn : Verdict SideData → Gains → Gains
 gainsIn verdict analysed = unlessRefused verdict (λ side. analysed) noGains
 

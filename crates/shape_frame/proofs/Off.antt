@@ -1,4 +1,4 @@
--- A filter that is told to be off has order 0, eight indices 8 and eight coefficients 0: its reflection coefficients are zeros, whose indices are
+-- A filter that is reported as off has order 0, eight indices 8 and eight coefficients 0: its reflection coefficients are zeros, whose indices are
 -- eights. A filter that is on may have order 0 too.
 use mathlib.Core.Path.{_≡_, refl, sym, _∙_, ap}
 use mathlib.Core.Bool.{Bool, true, false, cond}

@@ -40,7 +40,7 @@ struct Bands {
     gains: Gains,
 }
 
-// The filter of a band.
+// The filter of a band, and its record.
 fn filter_of(lines: &[f32], band: Band, flag: bool, weighting: u8) -> Shaped
     requires { ⌜ Long band (length (now lines)) ⌝ }
     ensures { λ r. ⌜ r ≡ shapedOf band (now (lines .entry)) flag weighting ⌝ }
@@ -56,7 +56,7 @@ fn filter_of(lines: &[f32], band: Band, flag: bool, weighting: u8) -> Shaped
     Shaped { filter, gain }
 }
 
-// The filter of the second band, or of none.
+// The same of the second band, or of none.
 fn second_of(lines: &[f32], row: Row, flag: bool, weighting: u8) -> Shaped
     requires { ⌜ LongRow row (length (now lines)) ⌝ }
     ensures { λ r. ⌜ r ≡ shapedSecond row (now (lines .entry)) flag weighting ⌝ }

@@ -13,7 +13,7 @@ use crate::draw::spectra::scale;
 pub const KINDS: [&str; 7] = [
     "subnormals among leaning lines",
     "a band of subnormals",
-    "a subband of subnormal energy",
+    "a subband whose energy may be subnormal",
     "a band whose energy may overflow",
     "a huge line",
     "an infinite line",
@@ -42,7 +42,7 @@ fn fill(random: &mut Random, row: &Row, kind: usize, lines: &mut [f32]) {
                 *line = subnormal(random);
             }
         }
-        "a subband of subnormal energy" => {
+        "a subband whose energy may be subnormal" => {
             scale(&mut lines[first..end], two(random.between(-80, -66)));
         }
         "a band whose energy may overflow" => {
