@@ -1,5 +1,5 @@
 -- Every coefficient is a whole number of 2^-26 and at most 1 in size: one test over the table, and the coefficient past it.
-use Rattle.core.specs.Prelude.{◌≡◌, ℕ, true, T}
+use Rattle.std.specs.Prelude.{◌≡◌, ℕ, true, T}
 use mathlib.Core.Path.{refl, sym, subst}
 use lib.Ieee.{of_bits}
 use Rattle.law_rounding.proofs.Factors.{Factor, is_factor, factor}

@@ -1,5 +1,5 @@
 -- The rules of the coefficients, each one test that the checker computes over the whole table.
-use Rattle.core.specs.Prelude.{◌≡◌, ◌*◌, ◌%◌, ◌^◌, Bool, true, false, ◌&&◌, List, [], ◌∷◌, map, reverse, ◌==◌}
+use Rattle.std.specs.Prelude.{◌≡◌, ◌*◌, ◌%◌, ◌^◌, Bool, true, false, ◌&&◌, List, [], ◌∷◌, map, reverse, ◌==◌}
 use Rattle.std.specs.Prelude.{refl, Float}
 use Rattle.std.specs.Float.{nan, inf, fin}
 use Rattle.std.specs.Float.Ieee.{up, down, lt, eq, neg, of_bits}

@@ -1,6 +1,6 @@
 -- docs/RULES.md, "Index and coefficient": the table of f32 coefficients, and the coefficient of an index.
 -- The table comes from a sweep of the Rust over every f32 from -1 to 1 (oracle/RESULTS.txt). It is written as bit patterns.
-use Rattle.core.specs.Prelude.{ℕ, List, [], ◌∷◌, map, from_bits, slice_index_or}
+use Rattle.std.specs.Prelude.{ℕ, List, [], ◌∷◌, map, from_bits, slice_index_or}
 use Rattle.std.specs.Prelude.{Float}
 use Rattle.std.specs.Float.{binary32}
 use Rattle.law_rounding.specs.Floats.{f0}

@@ -5,7 +5,7 @@
 -- half-way points below and above each coefficient it changes its sign. These 17 intervals do not meet and stand in the order of the table, so each
 -- holds the one root of its place, and no f32 is nearer to that root. Beside it stands the polynomial of the thresholds, cos 17θ / cos θ, which
 -- `index_choice` takes. All of it is about whole numbers.
-use Rattle.core.specs.Prelude.{◌≡◌, ℕ, zero, suc, ◌-◌, ◌*◌, ◌/◌, ◌^◌, Bool, true, false, cond, map, ℤ, pos, negsuc, ◌+ℤ◌, ◌-ℤ◌, ◌*ℤ◌, neg_ℤ, nat_lt}
+use Rattle.std.specs.Prelude.{◌≡◌, ℕ, zero, suc, ◌-◌, ◌*◌, ◌/◌, ◌^◌, Bool, true, false, cond, map, ℤ, pos, negsuc, ◌+ℤ◌, ◌-ℤ◌, ◌*ℤ◌, neg_ℤ, nat_lt}
 use Rattle.std.specs.Prelude.{refl, Float}
 use Rattle.std.proofs.Math.IntN.{suc_ℤ, pred_ℤ}
 use Rattle.std.specs.Float.{nan, inf, fin, binary32}

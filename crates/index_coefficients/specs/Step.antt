@@ -1,7 +1,7 @@
 -- docs/RULES.md, "Index and coefficient": the step of the indices is 12401689 / 2 ^ 26. It is an f32, and the spellings in E and in D both give it.
 -- Nothing else here uses the step: the tables were swept out of the Rust, and are compared with the sines themselves (`Sines`, and `ThresholdSines` of
 -- index_choice).
-use Rattle.core.specs.Prelude.{◌≡◌, ◌*◌, false, negsuc}
+use Rattle.std.specs.Prelude.{◌≡◌, ◌*◌, false, negsuc}
 use Rattle.std.specs.Prelude.{refl, Float}
 use Rattle.std.specs.Float.{nan, inf, fin, binary32, binary64}
 use Rattle.std.specs.Float.Ieee.{up, down, div, round, of_bits}

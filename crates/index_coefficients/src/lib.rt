@@ -2,7 +2,7 @@
 // The table comes from a sweep of the Rust (oracle/RESULTS.txt).
 #![tactic(auto)]
 
-ghost use Rattle.core.specs.Prelude.{◌≡◌, map};
+ghost use Rattle.std.specs.Prelude.{◌≡◌, map};
 ghost use Rattle.index_coefficients.specs.Coefficients.{coefficient_of};
 
 const COEFFICIENTS: [f32; 17] = [
