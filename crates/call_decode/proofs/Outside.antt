@@ -44,26 +44,26 @@ module _ (duration bandwidth filters : ℕ) (orders indices : List ℕ) where
   -- a call leaves as many lines as it finds
   pub as_many_lines : (lines : List Float) → length (after lines) ≡ length lines
   unfolding spectrum_decoded row_decoded
-  as_many_lines lines = calls.as-many-lines line_decoded (duration_of duration) bandwidth verdict acting filters as_counted sound lines
+  as_many_lines lines = calls.as_many_lines line_decoded (duration_of duration) bandwidth verdict acting filters as_counted sound lines
 
   -- lines outside the bands of the counted filters never change
   pub outside_never_changes : (lines : List Float) (i : ℕ) → ((k : ℕ) → k < filters → Outside (band_of row k) i) → get_or (after lines) i nan ≡ get_or lines i nan
   unfolding spectrum_decoded row_decoded
-  outside_never_changes lines i outside = calls.outside-never-changes line_decoded (duration_of duration) bandwidth verdict acting filters as_counted sound lines i outside
+  outside_never_changes lines i outside = calls.outside_never_changes line_decoded (duration_of duration) bandwidth verdict acting filters as_counted sound lines i outside
 
   -- so no line before the duration's first line does, whatever the bandwidth and the count, and none from the row's last stop on
   pub early_lines_stay : (lines : List Float) (i : ℕ) → i < (numbers_of (duration_of duration)).first_line → get_or (after lines) i nan ≡ get_or lines i nan
   unfolding spectrum_decoded row_decoded
-  early_lines_stay lines i h = calls.early-lines-stay line_decoded (duration_of duration) bandwidth verdict acting filters as_counted sound lines i h
+  early_lines_stay lines i h = calls.early_lines_stay line_decoded (duration_of duration) bandwidth verdict acting filters as_counted sound lines i h
 
   pub late_lines_stay : (lines : List Float) (i : ℕ) → last_stop row ≤ i → get_or (after lines) i nan ≡ get_or lines i nan
   unfolding spectrum_decoded row_decoded
-  late_lines_stay lines i h = calls.late-lines-stay line_decoded (duration_of duration) bandwidth verdict acting filters as_counted sound lines i h
+  late_lines_stay lines i h = calls.late_lines_stay line_decoded (duration_of duration) bandwidth verdict acting filters as_counted sound lines i h
 
   -- and they affect nothing: two spectra that agree inside the bands of the counted filters are decoded to spectra that agree there
   pub outside_affects_nothing : (xs ys : List Float) → length xs ≡ length ys → ((k : ℕ) → k < filters → inside (band_of row k) xs ≡ inside (band_of row k) ys)
       → (k : ℕ) → k < filters → inside (band_of row k) (after xs) ≡ inside (band_of row k) (after ys)
   unfolding spectrum_decoded row_decoded
   outside_affects_nothing xs ys long agree k h =
-      calls.outside-affects-nothing line_decoded (duration_of duration) bandwidth verdict acting filters as_counted sound xs ys
+      calls.outside_affects_nothing line_decoded (duration_of duration) bandwidth verdict acting filters as_counted sound xs ys
       (ap (decode_checks duration bandwidth filters orders indices) long) agree k h
