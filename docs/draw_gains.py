@@ -231,7 +231,7 @@ def build():
     """The program of examples/gains.c."""
     archive = pathlib.Path(os.environ.get("TNS_ARCHIVE", ROOT / "target/staticlib/libtns.a"))
     if not archive.is_file():
-        fail(f"there is no archive {archive}: run `rt staticlib tns`")
+        fail(f"there is no archive {archive}: run `tools/build library`")
     program = ROOT / "target/draw_gains/gains"
     program.parent.mkdir(parents=True, exist_ok=True)
     command = [*shlex.split(os.environ.get("CC", "cc")), "-std=c99", "-Wall", "-Wextra", f"-I{ROOT / 'include'}"]
@@ -244,7 +244,7 @@ def build():
         fail("cannot build examples/gains.c")
     # An archive from before the gains links too, but tells nothing.
     if subprocess.run([program], stdout=subprocess.DEVNULL).returncode:
-        fail(f"{archive} does not tell the gains as it must: run `rt staticlib tns`")
+        fail(f"{archive} does not tell the gains as it must: run `tools/build library`")
     return program
 
 

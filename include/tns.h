@@ -1,5 +1,5 @@
 /* Temporal noise shaping (TNS) of the LC3 audio codec: the nine functions of libtns.a. The archive is
- * for x86-64; `rt staticlib tns` proves and builds it.
+ * for x86-64; `tools/build library` proves and builds it.
  *
  * Every call returns an answer, whatever numbers and list lengths it gets. In an answer, refusal 0 means
  * accepted; any other number is the error code (refusal number). A refused call leaves every list as it

@@ -1,8 +1,8 @@
 //! Links libtns.a. The variable TNS_ARCHIVE can name it by its full path. Without it the archive is the
-//! repository's, which `rt staticlib tns` proves and builds whenever a crate has changed.
+//! repository's, which `rt lib` proves and builds in crates/tns_c whenever a crate has changed.
 //!
-//! cargo runs this again if the named archive changes, or else the crates. It does not watch the
-//! repository's archive: rt writes that anew at each call, so no build would ever be up to date. The crate
+//! cargo runs this again if the named archive changes, or else a source of the crates. It does not watch what rt
+//! makes, in crates/*/out: rt writes the archive anew at each call, so no build would ever be up to date. The crate
 //! links a copy, since rt can also remove its own, and cargo would not notice.
 
 use std::env;
@@ -85,7 +85,9 @@ fn of_repository(out: &Path) -> Result<PathBuf, String> {
         ));
     }
     println!("cargo:rerun-if-changed={}", list.display());
-    println!("cargo:rerun-if-changed={}", root.join("crates").display());
+    for folder in sources(&root.join("crates"))? {
+        println!("cargo:rerun-if-changed={}", folder.display());
+    }
 
     // cargo would take what rt prints for instructions.
     let log = out.join("rt.log");
@@ -93,8 +95,8 @@ fn of_repository(out: &Path) -> Result<PathBuf, String> {
     let output = File::create(&log).map_err(unwritten)?;
     let errors = output.try_clone().map_err(unwritten)?;
     let ended = Command::new("rt")
-        .args(["staticlib", "tns"])
-        .current_dir(&root)
+        .arg("lib")
+        .current_dir(root.join("crates/tns_c"))
         .stdin(Stdio::null())
         .stdout(output)
         .stderr(errors)
@@ -105,12 +107,29 @@ fn of_repository(out: &Path) -> Result<PathBuf, String> {
         )),
         Err(why) => Err(format!("rt cannot be started: {why}")),
         Ok(status) if !status.success() => Err(format!(
-            "`rt staticlib tns` failed ({status}). Its last lines:\n\n{}\n\nThe rest is in {}",
+            "`rt lib` failed in crates/tns_c ({status}). Its last lines:\n\n{}\n\nThe rest is in {}",
             last_lines(&log),
             log.display()
         )),
-        Ok(_) => Ok(root.join("target/staticlib/libtns.a")),
+        Ok(_) => Ok(root.join("crates/tns_c/out/libtns_c.a")),
     }
+}
+
+/// The folders of the crates that have sources.
+fn sources(crates: &Path) -> Result<Vec<PathBuf>, String> {
+    let unread = |why: io::Error| format!("cannot read {}: {why}", crates.display());
+    let mut folders = Vec::new();
+    for one in fs::read_dir(crates).map_err(unread)? {
+        let one = one.map_err(unread)?.path();
+        for part in ["src", "specs", "proofs"] {
+            let folder = one.join(part);
+            if folder.is_dir() {
+                folders.push(folder);
+            }
+        }
+    }
+    folders.sort();
+    Ok(folders)
 }
 
 fn last_lines(log: &Path) -> String {

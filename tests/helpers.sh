@@ -28,7 +28,7 @@ passed=0 failed=0
 needs() { # PROGRAM..: they must have been built
     for program; do
         [ -x "$programs/$program" ] || {
-            echo "$suite: $programs/$program is missing; \`rt check $program\` makes it" >&2
+            echo "$suite: $programs/$program is missing; \`tools/build program $program\` makes it" >&2
             exit 1
         }
     done
