@@ -4,16 +4,19 @@
 // bytes are read and written nothing can be.
 //
 // Assumes of the launcher (the script `tns`) that it opens descriptor 3 and ends with status 1 if a 1 is
-// written there, and with 2 if a 2 is. Where it is not open, the status does not say it.
+// written there, and with 2 if a 2 is. Where it is not open for writing, the status does not say it. Assumes of the
+// system that /proc/self/fd has the descriptors by their numbers, as Linux's has: std writes to a file by its name.
 #![tactic(auto)]
 
 ghost use Rattle.std.specs.Prelude.{◌≡◌};
 ghost use Rattle.io_streams.specs.Reads.{read_of, is_spent, ReadAfter};
 
-use libc::{STDERR_FILENO, STDIN_FILENO, STDOUT_FILENO};
+use std::fs::OpenOptions;
+use std::io::Write;
+use std::{fs, io};
 
-// The descriptor that the launcher opens for a program to say that something was refused, or failed.
-const LAUNCHER: i32 = 3;
+// The descriptor that the launcher opens for a program to say that something was refused, or failed: 3.
+const LAUNCHER: &str = "/proc/self/fd/3";
 
 // What one read gives: bytes, one at least; the end of input; or nothing, since it failed.
 #[derive(Clone, Copy)]
@@ -23,26 +26,52 @@ pub enum Read {
     Failed,
 }
 
+// The words of a reason, as the system has them: std puts the system's number behind them.
+fn words(reason: &str) -> &str {
+    match reason.split_once(" (os error ") {
+        Some((words, _)) => words,
+        None => reason,
+    }
+}
+
 // Says what failed, and the system's reason, and that the launcher's status is 2.
-pub fn failed(what: &[u8]) {
-    os::fail(what);
-    io::write_all(LAUNCHER, b"2");
+pub fn failed(rt: &HostRuntime, what: &[u8], reason: io::Error) {
+    say(rt, what);
+    say(rt, b": ");
+    match format!(in rt.alloc(); "{reason}") {
+        Ok(text) => say(rt, words(text.as_str()).as_bytes()),
+        Err(_) => {
+            let _ = rt.eprint(reason);
+        }
+    }
+    say(rt, b"\n");
+    to_launcher(rt, b"2");
 }
 
 // Says a line of a failure that the system has no reason for, and that the launcher's status is 2.
-pub fn complain(line: &[u8]) {
-    io::write_all(STDERR_FILENO, line);
-    io::write_all(LAUNCHER, b"2");
+pub fn complain(rt: &HostRuntime, line: &[u8]) {
+    say(rt, line);
+    to_launcher(rt, b"2");
 }
 
 // Says a line on standard error that changes no status.
-pub fn say(line: &[u8]) {
-    io::write_all(STDERR_FILENO, line);
+pub fn say(rt: &HostRuntime, line: &[u8]) {
+    let _ = rt.stderr().write_all(line);
+}
+
+// Writes to the launcher, where its descriptor is open for writing: one that is open to be read alone is a file of
+// the program's own, and nothing may be written there.
+fn try_to_launcher(rt: &HostRuntime, text: &[u8]) -> io::Result<()> {
+    if fs::symlink_metadata(rt, LAUNCHER)?.permissions().readonly() {
+        return Ok(());
+    }
+    let mut launcher = OpenOptions::new().append(true).open(rt, LAUNCHER)?;
+    launcher.write_all(text)
 }
 
 // Writes something else to the launcher than a status, which its program and the launcher agree on.
-pub fn to_launcher(text: &[u8]) {
-    io::write_all(LAUNCHER, text);
+pub fn to_launcher(rt: &HostRuntime, text: &[u8]) {
+    let _ = try_to_launcher(rt, text);
 }
 
 // What a read gives, by whether the system's failed and how many bytes that gave.
@@ -58,28 +87,35 @@ fn read_of(is_failed: bool, count: usize) -> Read
     Read::Bytes(count)
 }
 
-// One read of a descriptor, into `piece` after its first `held` bytes, which it leaves alone. A failure
+// One read of an input, into `piece` after its first `held` bytes, which it leaves alone. A failure
 // is said at once, of what `what` names.
-pub fn read_from(descriptor: i32, what: &[u8], piece: &mut [u8], held: usize) -> Read
+pub fn read_from<R: io::Read>(
+    rt: &HostRuntime,
+    input: &mut R,
+    what: &[u8],
+    piece: &mut [u8],
+    held: usize,
+) -> Read
     ensures { ReadAfter held piece.old piece.new result }
 {
     if held >= piece.len() {
         return Read::End;
     }
-    let got = libc::read(descriptor, &mut piece[held..]);
-    let is_failed = got < 0;
-    if is_failed {
-        failed(what);
+    match input.read(&mut piece[held..]) {
+        Ok(count) => read_of(false, count),
+        Err(reason) => {
+            failed(rt, what, reason);
+            read_of(true, 0)
+        }
     }
-    let count = io::count(got, &piece[held..]);
-    read_of(is_failed, count)
 }
 
 // The same of standard input.
-pub fn read_after(piece: &mut [u8], held: usize) -> Read
+pub fn read_after(rt: &HostRuntime, piece: &mut [u8], held: usize) -> Read
     ensures { ReadAfter held piece.old piece.new result }
 {
-    read_from(STDIN_FILENO, b"tns: standard input", piece, held)
+    let mut input = rt.stdin();
+    read_from(rt, &mut input, b"tns: standard input", piece, held)
 }
 
 // Whether a program that has made so many reads, and has more to read, has made all that it makes, so that its
@@ -91,37 +127,39 @@ pub fn is_spent(goes_on: bool, reads: u64) -> bool
 }
 
 // Says that standard input was cut short after the last read that is made, and that the launcher's status is 2.
-pub fn complain_of_reads() {
-    complain(b"tns: standard input: too many reads\n");
+pub fn complain_of_reads(rt: &HostRuntime) {
+    complain(rt, b"tns: standard input: too many reads\n");
 }
 
-// Writes all of a text to a descriptor, and answers whether it could. A failure is said at once, of what
+// Writes all of a text to an output, and answers whether it could. A failure is said at once, of what
 // `what` names. It has no promise: no contract can say what a call writes, nor whether the system takes
 // it.
-pub fn write_to(descriptor: i32, what: &[u8], text: &[u8]) -> bool {
-    let is_written = io::write_all(descriptor, text);
-    if !is_written {
-        failed(what);
+pub fn write_to<W: Write>(rt: &HostRuntime, output: &mut W, what: &[u8], text: &[u8]) -> bool {
+    match output.write_all(text) {
+        Ok(()) => true,
+        Err(reason) => {
+            failed(rt, what, reason);
+            false
+        }
     }
-    is_written
 }
 
 // The same of standard output, as `what` names it.
-pub fn write_as(what: &[u8], text: &[u8]) -> bool {
-    write_to(STDOUT_FILENO, what, text)
+pub fn write_as(rt: &HostRuntime, what: &[u8], text: &[u8]) -> bool {
+    let mut output = rt.stdout();
+    write_to(rt, &mut output, what, text)
 }
 
 // The same of standard output, by its own name.
-pub fn write(text: &[u8]) -> bool {
-    write_as(b"tns: standard output", text)
+pub fn write(rt: &HostRuntime, text: &[u8]) -> bool {
+    write_as(rt, b"tns: standard output", text)
 }
 
 // Says a refusal on standard error, and that the launcher's status is 1, or 2 if that cannot be said. It
 // has no promise, as `write` has none.
-pub fn refuse(line: &[u8]) {
-    if io::write_all(STDERR_FILENO, line) {
-        io::write_all(LAUNCHER, b"1");
-    } else {
-        io::write_all(LAUNCHER, b"2");
+pub fn refuse(rt: &HostRuntime, line: &[u8]) {
+    match rt.stderr().write_all(line) {
+        Ok(()) => to_launcher(rt, b"1"),
+        Err(_) => to_launcher(rt, b"2"),
     }
 }
