@@ -1,0 +1,13 @@
+-- The invariant: the stages still to come, on the line and the states as they are, give what all of them give.
+use Rattle.std.proofs.Common.{◌≡◌, ◌≤◌}
+use Rattle.lattice_decoder.specs.DecoderLattice.{stages_below, passing}
+use Rattle.lattice_decoder.proofs.line_decoded.Given as goal
+
+abbrev pub invariant-loop-k : goal.invariant-loop-k
+invariant-loop-k l = record {
+  within : l.k ≤ l.last;
+  to_come : stages_below l.fn.q l.last (passing l.initial.t l.initial.state) ≡ stages_below l.fn.q l.k (passing l.t l.state);
+}
+
+abbrev pub decreases-loop-k : goal.decreases-loop-k
+decreases-loop-k l = l.k
