@@ -1,0 +1,11 @@
+-- Each line goes through the lattice by itself; the loop's law is that of every lattice.
+use Rattle.std.proofs.Common.{◌-◌, length}
+use Rattle.lattice_encoder.specs.EncoderLattice.{line_encoded}
+use Rattle.lattice_lines.proofs.BandLines.{Going}
+use Rattle.lattice_bands.proofs.lines_encoded.Given as goal
+
+abbrev pub invariant-loop-i : goal.invariant-loop-i
+invariant-loop-i l = Going line_encoded l.fn.q l.order l.initial.state l.initial.lines l.state l.lines l.i
+
+abbrev pub decreases-loop-i : goal.decreases-loop-i
+decreases-loop-i l = length l.initial.lines - l.i
