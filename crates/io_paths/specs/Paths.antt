@@ -1,12 +1,15 @@
 -- The paths of files, as bytes.
-use Rattle.std.specs.Prelude.{◌≡◌, cond, List, ◌++◌, ℕ, zero, suc, ◌-◌, eqb, length, take, get_or, replicate}
+use Rattle.std.specs.Prelude.{◌≡◌, cond, List, ◌++◌, ℕ, zero, suc, ◌-◌, eqb, length, take, get_or, replicate, slice_index_or}
 use Rattle.io.specs.Counts.{IsPrefixLen}
-use Rattle.libc.specs.Io.{Ended}
 use Rattle.text_put.specs.Text.{ascii, decimal}
 
 -- as C takes a path: its first 4,095 bytes, and zeros behind them, to 4,096 bytes in all
 abbrev pub c_path : List ℕ → List ℕ
 c_path path = take 4095 path ++ replicate (4096 - length (take 4095 path)) 0
+
+-- the last of 4,096 bytes is 0
+abbrev pub Ended : List ℕ → Type 0
+Ended bytes = slice_index_or bytes 4095 1 ≡ 0
 
 -- such bytes, the last of which is a zero
 pub record IsCPath (path result : List ℕ) : Type 0 where

@@ -21,6 +21,7 @@ pub fn c_path(path: &[u8]) -> [u8; 4096]
 }
 
 // How many bytes of a path name its folder: up to its last slash, with it.
+#[tactic(auto, unfolding(crate::specs::Paths::slash_within), using(crate::proofs::Slashes::at_slash, crate::proofs::Slashes::at_other))]
 pub fn folder_of(path: &[u8]) -> usize
     ensures { CountsFolder path.now result }
 {
