@@ -258,5 +258,5 @@ module _ (m : ℤ) (r : Reading m) where
     lines_near states [] exact held f a = record { lines = no_lines m; after = held }
     lines_near states (x ∷ xs) exact held f a =
         let line = line_near h r.small q fs order most states exact held x (in_units 149 x) (line_enters x (f 0 (omega arith)) (a 0 (omega arith))) in
-        let rest = lines_near _ xs _ line.states (λ j l. f (suc j) (omega arith)) (λ j l. a (suc j) (omega arith)) in
+        let rest = lines_near (line_encoded q order states x).states xs (line_exact (map (in_units 26) q) order exact (in_units 149 x)).states line.states (λ j l. f (suc j) (omega arith)) (λ j l. a (suc j) (omega arith)) in
         record { lines = one_line_more m _ _ _ _ (line_leaves order most _ _ line.t) rest.lines; after = rest.after }
