@@ -91,21 +91,21 @@ module _ (duration bandwidth nbits : ℕ) (flag : Bool) where
   -- a call leaves as many lines as it finds
   pub as_many_lines : (lines : List Float) → length (after lines) ≡ length lines
   unfolding spectrum_encoded filtered_by
-  as_many_lines lines = calls.as-many-lines line_encoded (duration_of duration) bandwidth verdict filters_in 2 counted sound lines
+  as_many_lines lines = calls.as_many_lines line_encoded (duration_of duration) bandwidth verdict filters_in 2 counted sound lines
 
   -- lines outside the bands never change
   pub outside_never_changes : (lines : List Float) (i : ℕ) → ((k : ℕ) → k < 2 → Outside (band_of row k) i) → get_or (after lines) i nan ≡ get_or lines i nan
   unfolding spectrum_encoded filtered_by
-  outside_never_changes lines i outside = calls.outside-never-changes line_encoded (duration_of duration) bandwidth verdict filters_in 2 counted sound lines i outside
+  outside_never_changes lines i outside = calls.outside_never_changes line_encoded (duration_of duration) bandwidth verdict filters_in 2 counted sound lines i outside
 
   -- so no line before the duration's first line does, and none from the row's last stop on
   pub early_lines_stay : (lines : List Float) (i : ℕ) → i < (numbers_of (duration_of duration)).first_line → get_or (after lines) i nan ≡ get_or lines i nan
   unfolding spectrum_encoded filtered_by
-  early_lines_stay lines i h = calls.early-lines-stay line_encoded (duration_of duration) bandwidth verdict filters_in 2 counted sound lines i h
+  early_lines_stay lines i h = calls.early_lines_stay line_encoded (duration_of duration) bandwidth verdict filters_in 2 counted sound lines i h
 
   pub late_lines_stay : (lines : List Float) (i : ℕ) → last_stop row ≤ i → get_or (after lines) i nan ≡ get_or lines i nan
   unfolding spectrum_encoded filtered_by
-  late_lines_stay lines i h = calls.late-lines-stay line_encoded (duration_of duration) bandwidth verdict filters_in 2 counted sound lines i h
+  late_lines_stay lines i h = calls.late_lines_stay line_encoded (duration_of duration) bandwidth verdict filters_in 2 counted sound lines i h
 
   -- And they affect nothing: of two spectra of one length that agree inside the bands, a call gives the same answer, side data and gains, and leaves
   -- lines that agree inside the bands.
@@ -144,4 +144,4 @@ module _ (duration bandwidth nbits : ℕ) (flag : Bool) where
 
     pub same_lines : (k : ℕ) → k < 2 → inside (band_of row k) (after xs) ≡ inside (band_of row k) (after ys)
     unfolding spectrum_encoded filtered_by
-    same_lines k h = calls.outside-affects-nothing line_encoded (duration_of duration) bandwidth verdict filters_in 2 counted sound xs ys same_verdict agree k h
+    same_lines k h = calls.outside_affects_nothing line_encoded (duration_of duration) bandwidth verdict filters_in 2 counted sound xs ys same_verdict agree k h
