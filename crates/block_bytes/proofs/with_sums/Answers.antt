@@ -3,16 +3,12 @@ use mathlib.Core.Path.{◌≡◌, ◌∙◌, ap}
 use mathlib.Core.List.{List, [], ◌∷◌, ◌++◌, append-nil}
 use Prim.Native.Nat.{ℕ, ◌/◌, ◌%◌, ◌≤◌}
 use native.Mathlib.Omega.{arith}
-use borrow.Author.Rules.{rules}
-use borrow.Kind.Array.{good_length, e_int}
-use mir.Syntax.{w8}
 use lib.ListN.{length, take, set, drop_of_length-le}
 use lib.Seq.{sets-eq}
 use Rattle.block_numbers.specs.Sums.{sums_of}
 use Rattle.block_numbers.specs.declared.Sums.{Sums}
 use Rattle.block_parts.specs.Parts.{sum_bytes}
-use Rattle.block_bytes.proofs.with_sums.Statement.{statement}
-use Rattle.block_bytes.proofs.with_sums.Tie as tie
+use Rattle.block_bytes.proofs.with_sums.Goals as goal
 
 stored : (block : List ℕ) (sums : Sums) → length block ≡ 512 → sums ≡ sums_of (take 508 block)
     → set (set (set (set block 508 (sums.plain % 256)) 509 (sums.plain / 256)) 510 (sums.weighted % 256)) 511 (sums.weighted / 256)
@@ -25,25 +21,5 @@ stored block sums whole its =
     ∙ append-nil (take 508 block ++ four)
     ∙ ap (λ (s : Sums). take 508 block ++ ((s.plain % 256) ∷ (s.plain / 256) ∷ (s.weighted % 256) ∷ (s.weighted / 256) ∷ [])) its
 
-returns : tie.Need-returns
-returns c =
-    let called = c.before.before.before.before in
-    let start = called.before.before in
-    let block = start.args.t1 in
-    stored block called.sums-of.result (good_length (e_int w8) 512 block _ start.well-formed.0) called.sums-of.ensures
-
-pub with_sums_spec : {M : Type 1} → statement M
-with_sums_spec =
-    tie.close
-    (tie.spec
-    (λ c. search rules)
-    (λ c κs. search rules)
-    (λ c. search rules)
-    (λ c. search rules)
-    (λ c. search rules)
-    (λ c. search rules)
-    (λ c. search rules)
-    (λ c. search rules)
-    (λ c. search rules)
-    (λ c. search rules)
-    returns)
+pub returns : goal.returns
+returns c = stored c.args.block c.sums_of-sums.result (omega arith) c.sums_of-sums.ensures
