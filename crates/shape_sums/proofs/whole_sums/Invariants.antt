@@ -1,0 +1,7 @@
+-- The lines passed have added their products.
+use Rattle.std.proofs.Common.{◌≡◌}
+use Rattle.shape_sums.specs.PartialSums.{sums_to}
+use Rattle.shape_sums.proofs.whole_sums.Given as goal
+
+abbrev pub invariant-loop-n : goal.invariant-loop-n
+invariant-loop-n l = l.sums ≡ sums_to l.lines l.n
