@@ -9,7 +9,10 @@ ghost use Rattle.text_put.specs.Text.{Puts};
 ghost use Rattle.io_progress.specs.Named.{name_text};
 ghost use Rattle.io_progress.specs.Percents.{percent_of, in_second};
 
-use libc::{STDERR_FILENO, STDOUT_FILENO};
+use std::fs::File;
+use std::io;
+use std::io::{IsTerminal, Seek, SeekFrom};
+use std::time::{SystemTime, UNIX_EPOCH};
 use text_put::{put, put_numbered};
 
 // What is known of a run: whether its progress is shown, whether its report goes to a terminal too, how large
@@ -25,27 +28,34 @@ pub struct Progress {
     pub is_shown: bool,
 }
 
-// A number of the system's, or 0 where it has none and answers one below 0.
-fn known(answer: i64) -> u64 {
-    if answer < 0 {
-        return 0;
+// A number of the system's, or 0 where it has none.
+fn known(answer: io::Result<u64>) -> u64 {
+    match answer {
+        Ok(number) => number,
+        Err(_) => 0,
     }
-    answer as u64
+}
+
+// The clock, as the system answers.
+fn clock(rt: &HostRuntime) -> io::Result<u64> {
+    match SystemTime::now(rt)?.duration_since(UNIX_EPOCH) {
+        Ok(gone) => Ok(gone.as_secs()),
+        Err(_) => Ok(0),
+    }
 }
 
 // The seconds of the clock.
-pub fn seconds() -> u64 {
-    let mut stored = 0i64;
-    let now = libc::time(&mut stored);
-    known(now)
+pub fn seconds(rt: &HostRuntime) -> u64 {
+    known(clock(rt))
 }
 
 // A run that begins with a file.
-pub fn of_file(descriptor: i32) -> Progress {
-    let is_terminal = libc::isatty(STDERR_FILENO) == 1;
-    let is_shared = libc::isatty(STDOUT_FILENO) == 1;
-    let end = libc::lseek(descriptor, 0, libc::SEEK_END);
-    let now = seconds();
+pub fn of_file(rt: &HostRuntime, input: &File) -> Progress {
+    let is_terminal = rt.stderr().is_terminal();
+    let is_shared = rt.stdout().is_terminal();
+    let mut input = input;
+    let end = input.seek(SeekFrom::End(0));
+    let now = seconds(rt);
     Progress {
         is_terminal,
         is_shared,
@@ -56,11 +66,11 @@ pub fn of_file(descriptor: i32) -> Progress {
     }
 }
 
-fn show(percent: u64) {
+fn show(rt: &HostRuntime, percent: u64) {
     let mut text = [0u8; 32];
     let numbered = put_numbered(b"\rtns: ", percent, &mut text, 0);
     let count = put(b"%", &mut text, numbered);
-    io::write_all(STDERR_FILENO, &text[..count]);
+    let _ = rt.stderr().write_all(&text[..count]);
 }
 
 // The part of both readings that is done, in percent: a file of so many bytes has a block in each 512, and each is
@@ -86,33 +96,33 @@ fn in_second(progress: Progress, now: u64) -> Progress
 }
 
 // So many blocks are done, of both readings of the file.
-pub fn shown(progress: Progress, done: u64) -> Progress {
+pub fn shown(rt: &HostRuntime, progress: Progress, done: u64) -> Progress {
     if !progress.is_terminal {
         return progress;
     }
-    let now = seconds();
+    let now = seconds(rt);
     if now == progress.second {
         return progress;
     }
     let next = in_second(progress, now);
     if next.is_shown {
-        show(percent_of(next.size, done));
+        show(rt, percent_of(next.size, done));
     }
     next
 }
 
 // What stands on the terminal is gone.
-pub fn erase(progress: Progress) {
+pub fn erase(rt: &HostRuntime, progress: Progress) {
     if progress.is_shown {
-        io::write_all(STDERR_FILENO, b"\r           \r");
+        let _ = rt.stderr().write_all(b"\r           \r");
     }
 }
 
 // The report is about to be written: what stands on the terminal is gone if the report comes there too, and stays
 // if it does not.
-pub fn give_way(progress: Progress) {
+pub fn give_way(rt: &HostRuntime, progress: Progress) {
     if progress.is_shared {
-        erase(progress);
+        erase(rt, progress);
     }
 }
 
