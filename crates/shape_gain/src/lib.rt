@@ -23,6 +23,7 @@ pub struct Gains {
 }
 
 // The prediction gain. A zero error is not divided by.
+#[tactic(auto, unfolding(crate::specs::Gain::gain_of))]
 fn gain_of(r0: f32, error: f32) -> f32
     ensures { result ≡ gain_of r0 error }
 {
@@ -32,6 +33,7 @@ fn gain_of(r0: f32, error: f32) -> f32
     r0 / error
 }
 
+#[tactic(auto, unfolding(crate::specs::Gain::is_on))]
 fn is_on(gain: f32, flag: bool) -> bool
     ensures { result ≡ is_on gain flag }
 {
@@ -41,6 +43,7 @@ fn is_on(gain: f32, flag: bool) -> bool
     false
 }
 
+#[tactic(auto, unfolding(crate::specs::Gain::damping_of))]
 fn damping_of(gain: f32, on: bool, weighting: u8) -> f32
     ensures { result ≡ damping_of gain on weighting }
 {
@@ -55,6 +58,7 @@ fn damping_of(gain: f32, on: bool, weighting: u8) -> f32
 }
 
 // The record of a filter with the near-Nyquist flag, whose lag 0 is `r0` and whose recursion leaves the error `error`.
+#[tactic(auto, unfolding(crate::specs::Gain::gain_record))]
 pub fn gain_record(r0: f32, error: f32, flag: bool, weighting: u8) -> FilterGain
     ensures { result ≡ gain_record r0 error flag weighting }
 {
