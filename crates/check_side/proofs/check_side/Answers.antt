@@ -2,7 +2,6 @@
 use mathlib.Core.Path.{◌≡◌, sym, ◌∙◌, ap}
 use mathlib.Core.List.{List}
 use Prim.Native.Nat.{ℕ, ◌<◌, ◌≤◌}
-use borrow.Author.Rules.{rules}
 use borrow.Author.Tests.{lt-ltb, le-ltb, eq-eqb, ne_eqb}
 use lib.ListN.{length}
 use Rattle.check_verdicts.specs.Verdicts.{numbered, placed, Verdict, no_fault, refused}
@@ -10,8 +9,7 @@ use Rattle.check_side.specs.Sides.{side_checks, check_at}
 use Rattle.check_limits.specs.LowestOver.{lowest_over}
 use Rattle.check_limits.specs.declared.Over.{Over}
 use Rattle.check_limits.specs.declared.Over.TheVariants.{Nowhere, At}
-use Rattle.check_side.proofs.check_side.Statement.{statement}
-use Rattle.check_side.proofs.check_side.Tie as tie
+use Rattle.check_side.proofs.check_side.Goals as goal
 
 module _ {A : Type 0} (filters : ℕ) (orders indices : List ℕ) (next : Verdict A) where
   orders_fail : (length orders ≡ 2 → ⊥) → refused (numbered 4) ≡ side_checks filters orders indices next
@@ -47,60 +45,27 @@ module _ {A : Type 0} (filters : ℕ) (orders indices : List ℕ) (next : Verdic
           all_fine : lowest_over 16 0 indices ≡ Nowhere → next ≡ side_checks filters orders indices next
           all_fine e = sym (index_left ∙ ap (λ (o : Over). check_at 7 o next) e)
 
-returns : tie.Need-returns
+pub returns-then-orders-ne2 : goal.returns-then-orders-ne2
+returns-then-orders-ne2 c = orders_fail c.args.filters c.args.orders.now c.args.indices.now no_fault c.if-orders-ne2.true
+
+pub returns-then-indices-ne16 : goal.returns-then-indices-ne16
+returns-then-indices-ne16 c = indices_fail c.args.filters c.args.orders.now c.args.indices.now no_fault c.if-orders-ne2.false c.if-indices-ne16.true
+
+pub returns-then-filters-gt2 : goal.returns-then-filters-gt2
+returns-then-filters-gt2 c =
+    count_fails c.args.filters c.args.orders.now c.args.indices.now no_fault c.if-orders-ne2.false c.if-indices-ne16.false c.if-filters-gt2.true
+
+pub returns-in-At : goal.returns-in-At
+returns-in-At c =
+    order_fails c.args.filters c.args.orders.now c.args.indices.now no_fault c.if-orders-ne2.false c.if-indices-ne16.false c.if-filters-gt2.false _ _
+    (sym c.in-At.ensures)
+
+pub returns-in-At-index : goal.returns-in-At-index
+returns-in-At-index c =
+    index_fails c.args.filters c.args.orders.now c.args.indices.now no_fault c.if-orders-ne2.false c.if-indices-ne16.false c.if-filters-gt2.false
+    (sym c.lowest_over-order.ensures ∙ c.in_default.is) _ _ (sym c.in-At-index.ensures)
+
+pub returns : goal.returns
 returns c =
-    let g = c.before.before.before.args in
-    orders_fail g.filters g.orders.now g.indices.now no_fault c.if1.true
-
-returns-2 : tie.Need-returns-2
-returns-2 c =
-    let g = c.before.before.before.before.args in
-    indices_fail g.filters g.orders.now g.indices.now no_fault c.before.if1.false c.if2.true
-
-returns-3 : tie.Need-returns-3
-returns-3 c =
-    let g = c.before.before.before.before.before.args in
-    count_fails g.filters g.orders.now g.indices.now no_fault c.before.before.if1.false c.before.if2.false c.if3.true
-
-returns-4 : tie.Need-returns-4
-returns-4 c =
-    let called = c.before.before.before in
-    let e = called.before in
-    let g = e.before.before.before.before.before.args in
-    order_fails g.filters g.orders.now g.indices.now no_fault e.before.before.if1.false e.before.if2.false e.if3.false _ _
-    (sym called.lowest-over.ensures ∙ c.before.order.given.1)
-
-returns-5 : tie.Need-returns-5
-returns-5 c =
-    let called2 = c.before.before.before in
-    let called = called2.before.before.before in
-    let e = called.before in
-    let g = e.before.before.before.before.before.args in
-    index_fails g.filters g.orders.now g.indices.now no_fault e.before.before.if1.false e.before.if2.false e.if3.false
-    (sym called.lowest-over.ensures ∙ called2.before.enum_told.given.1) _ _ (sym called2.lowest-over2.ensures ∙ c.before.index.given.1)
-
-returns-6 : tie.Need-returns-6
-returns-6 c =
-    let called2 = c.before.before in
-    let called = called2.before.before.before in
-    let e = called.before in
-    let g = e.before.before.before.before.before.args in
-    all_fine g.filters g.orders.now g.indices.now no_fault e.before.before.if1.false e.before.if2.false e.if3.false
-    (sym called.lowest-over.ensures ∙ called2.before.enum_told.given.1) (sym called2.lowest-over2.ensures ∙ c.enum-told2.given.1)
-
-pub check_side_spec : {M : Type 1} → statement M
-check_side_spec =
-    tie.close
-    (tie.spec
-    returns
-    returns-2
-    returns-3
-    (λ c κs. search rules)
-    (λ c. search rules)
-    returns-4
-    (λ c. search rules)
-    (λ c κs. search rules)
-    (λ c. search rules)
-    returns-5
-    (λ c. search rules)
-    returns-6)
+    all_fine c.args.filters c.args.orders.now c.args.indices.now no_fault c.if-orders-ne2.false c.if-indices-ne16.false c.if-filters-gt2.false
+    (sym c.lowest_over-order.ensures ∙ c.in_default.is) (sym c.lowest_over-index.ensures ∙ c.in_default-index.is)
