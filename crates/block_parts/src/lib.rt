@@ -28,6 +28,7 @@ pub fn all_sound(bytes: &[u8]) -> bool
 
 // Whether both sums are those of the bytes before them. This and the next three require the 512 bytes of a
 // block, as the heading says.
+#[tactic(auto, unfolding(crate::specs::Parts::sums_right))]
 pub fn are_sums_right(block: &[u8]) -> bool
     requires { length block.now ≡ 512 }
     ensures { result ≡ sums_right block.now }
@@ -40,6 +41,7 @@ pub fn are_sums_right(block: &[u8]) -> bool
 }
 
 // Whether the header is right apart from the number.
+#[tactic(auto, unfolding(crate::specs::Parts::header_right))]
 pub fn is_header_right(block: &[u8]) -> bool
     requires { length block.now ≡ 512 }
     ensures { result ≡ header_right block.now }
