@@ -3,7 +3,6 @@ use mathlib.Core.Path.{◌≡◌, ◌∙◌}
 use mathlib.Core.Bool.{Bool}
 use mathlib.Core.List.{List}
 use Prim.Native.Nat.{ℕ}
-use borrow.Author.Rules.{rules}
 use borrow.Author.Tests.{eq-eqb, ne_eqb}
 use lib.Ieee.{Float}
 use Rattle.row_bands.specs.declared.Row.{Row}
@@ -13,8 +12,7 @@ use Rattle.shape_gain.specs.Gains.{absent_gain}
 use Rattle.shape_gain.specs.declared.FilterGain.{FilterGain}
 use Rattle.shape_frame.specs.FrameSide.{second_of, shaped_of, shaped_second}
 use Rattle.shape_frame.specs.declared.Shaped.{Shaped}
-use Rattle.shape_frame.proofs.second_of.Statement.{statement}
-use Rattle.shape_frame.proofs.second_of.Tie as tie
+use Rattle.shape_frame.proofs.second_of.Goals as goal
 
 module _ (row : Row) (lines : List Float) (flag : Bool) (weighting : ℕ) where
   no_second : (f : Quantized) (g : FilterGain) → f ≡ absent → g ≡ absent_gain → row.second.stop ≡ 0
@@ -26,20 +24,13 @@ module _ (row : Row) (lines : List Float) (flag : Bool) (weighting : ℕ) where
   unfolding second_of
   has_second_lem h = rw (ne_eqb row.second.stop 0 h)
 
-returns : tie.Need-returns
+pub returns-then-row-eq0 : goal.returns-then-row-eq0
+returns-then-row-eq0 c =
+    let g = c.args in
+    no_second g.row g.lines.now g.flag g.weighting c.none-filter.result c.absent_gain-gain.result
+    c.none-filter.ensures c.absent_gain-gain.ensures c.if-row-eq0.true
+
+pub returns : goal.returns
 returns c =
-    let found = c.before in
-    let g = found.before.before.before.before.args in
-    no_second g.row g.lines.now g.flag g.weighting found.none.result c.absent-gain.result
-    found.none.ensures c.absent-gain.ensures found.before.if1.true
-
-filter_of_requires : tie.Need-filter-of-requires
-filter_of_requires c κs = c.before.before.before.requires.second c.if1.false
-
-returns-2 : tie.Need-returns-2
-returns-2 c =
-    let g = c.before.before.before.before.args in
-    c.filter-of.ensures ∙ has_second_lem g.row g.lines.now g.flag g.weighting c.before.if1.false
-
-pub second_of_spec : {M : Type 1} → statement M
-second_of_spec = tie.close (tie.spec (λ c κs. search rules) (λ c κs. search rules) returns filter_of_requires returns-2)
+    let g = c.args in
+    c.filter_of.ensures ∙ has_second_lem g.row g.lines.now g.flag g.weighting c.if-row-eq0.false

@@ -3,15 +3,13 @@ use mathlib.Core.Path.{◌≡◌, ◌∙◌}
 use mathlib.Core.List.{List}
 use Prim.Native.Nat.{ℕ}
 use native.Mathlib.Omega.{arith}
-use borrow.Author.Rules.{rules}
 use lib.ListN.{take, drop}
 use lib.Seq.{take_all}
 use Rattle.check_side.specs.Sides.{SoundSide}
 use Rattle.cost_call.specs.Cost.{counted_bits}
 use Rattle.side_data.specs.Side.{orders_in, indices_in, bytes_in}
 use Rattle.side_data.specs.declared.SideData.{SideData}
-use Rattle.shape_frame.proofs.side_bits.Statement.{statement}
-use Rattle.shape_frame.proofs.side_bits.Tie as tie
+use Rattle.shape_frame.proofs.side_bits.Goals as goal
 
 module _ (s : SideData) (sound : SoundSide s.filters (orders_in s) (indices_in s)) (bytes : List ℕ) (e : bytes ≡ bytes_in s) where
   -- both lists, as they are read out of the bytes
@@ -30,30 +28,8 @@ module _ (s : SideData) (sound : SoundSide s.filters (orders_in s) (indices_in s
       ≡ counted_bits weighting s.filters (orders_in s) (indices_in s)
   bits weighting = rw (orders, indices)
 
-counted_bits_requires : tie.Need-counted-bits-requires
-counted_bits_requires c κs =
-    let made = c.before.before.before.before in
-    fine made.before.args.side made.before.requires made.bytes_of.result made.bytes_of.ensures
+pub counted_bits-requires : goal.counted_bits-requires
+counted_bits-requires c = fine c.args.side c.requires c.bytes_of-all.result c.bytes_of-all.ensures
 
-returns : tie.Need-returns
-returns c =
-    let made = c.before.before.before.before.before in
-    let g = made.before.args in
-    c.counted-bits.ensures ∙ bits g.side made.before.requires made.bytes_of.result made.bytes_of.ensures g.weighting
-
-pub side_bits_spec : {M : Type 1} → statement M
-side_bits_spec =
-    tie.close
-    (tie.spec
-    (λ c κs. search rules)
-    (λ c. search rules)
-    (λ c. search rules)
-    (λ c. search rules)
-    (λ c. search rules)
-    (λ c. search rules)
-    (λ c. search rules)
-    (λ c. search rules)
-    (λ c. search rules)
-    (λ c. search rules)
-    counted_bits_requires
-    returns)
+pub returns : goal.returns
+returns c = c.counted_bits.ensures ∙ bits c.args.side c.requires c.bytes_of-all.result c.bytes_of-all.ensures c.args.weighting

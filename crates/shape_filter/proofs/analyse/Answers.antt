@@ -3,7 +3,6 @@ use mathlib.Core.Path.{◌≡◌, ◌∙◌, ap}
 use mathlib.Core.Bool.{Bool, true}
 use mathlib.Core.List.{List}
 use Prim.Native.Nat.{ℕ}
-use borrow.Author.Rules.{rules}
 use lib.Ieee.{Float}
 use lib.ListN.{replicate}
 use Rattle.row_bands.specs.declared.Band.{Band}
@@ -18,8 +17,7 @@ use Rattle.shape_filter.specs.declared.Analysed.{Analysed}
 use Rattle.shape_gain.specs.declared.FilterGain.{FilterGain}
 use Rattle.shape_recursion.specs.declared.Predictor.{Predictor}
 use Rattle.shape_filter.proofs.FilterReflections.{off_zeros}
-use Rattle.shape_filter.proofs.analyse.Statement.{statement}
-use Rattle.shape_filter.proofs.analyse.Tie as tie
+use Rattle.shape_filter.proofs.analyse.Goals as goal
 
 module _ (b : Band) (lines : List Float) (flag : Bool) (weighting : ℕ) where
   both : (g : FilterGain) (x : List Float) → g ≡ filter_record b lines flag weighting → x ≡ reflections_of b lines flag weighting
@@ -36,44 +34,25 @@ module _ (b : Band) (lines : List Float) (flag : Bool) (weighting : ℕ) where
   unfolding reflections_of
   on_is p g x eg ep on ex = rw (← eg, on, ← ep) ex
 
-returns : tie.Need-returns
+pub returns-then-gain : goal.returns-then-gain
+returns-then-gain c =
+    let g = c.args in
+    let xs = g.lines.now in
+    let p = c.predict-p.result in
+    let gain = c.gain_record-gain.result in
+    let er = c.autocorrelated-r.ensures in
+    let ep = c.predict-p.ensures in
+    let eg = record_is g.band xs g.flag g.weighting c.autocorrelated-r.result p gain er ep c.gain_record-gain.ensures in
+    both g.band xs g.flag g.weighting gain c.reflected_row-reflections.result eg
+    (on_is g.band xs g.flag g.weighting p gain c.reflected_row-reflections.result eg (ep ∙ ap (λ (r : List Float). predicted r 8) er)
+    c.if-gain.true (c.reflected_row-reflections.ensures ∙ ap reflections c.damped_row.ensures))
+
+pub returns : goal.returns
 returns c =
-    let damping = c.before in
-    let gained = damping.before.before.before in
-    let predicting = gained.before in
-    let lagged = predicting.before in
-    let g = lagged.before.before.args in
+    let g = c.args in
     let xs = g.lines.now in
-    let p = predicting.predict.result in
-    let er = lagged.autocorrelated.ensures in
-    let ep = predicting.predict.ensures in
-    let eg = record_is g.band xs g.flag g.weighting lagged.autocorrelated.result p gained.gain-record.result er ep gained.gain-record.ensures in
-    both g.band xs g.flag g.weighting gained.gain-record.result c.reflected-row.result eg
-    (on_is g.band xs g.flag g.weighting p gained.gain-record.result c.reflected-row.result eg (ep ∙ ap (λ (r : List Float). predicted r 8) er)
-    damping.before.before.if1.true (c.reflected-row.ensures ∙ ap reflections damping.damped-row.ensures))
-
-returns-2 : tie.Need-returns-2
-returns-2 c =
-    let gained = c.before in
-    let predicting = gained.before in
-    let lagged = predicting.before in
-    let g = lagged.before.before.args in
-    let xs = g.lines.now in
-    let eg = record_is g.band xs g.flag g.weighting lagged.autocorrelated.result predicting.predict.result gained.gain-record.result
-    lagged.autocorrelated.ensures predicting.predict.ensures gained.gain-record.ensures
+    let gain = c.gain_record-gain.result in
+    let eg = record_is g.band xs g.flag g.weighting c.autocorrelated-r.result c.predict-p.result gain
+    c.autocorrelated-r.ensures c.predict-p.ensures c.gain_record-gain.ensures
     in
-    both g.band xs g.flag g.weighting gained.gain-record.result (replicate 8 f0) eg
-    (off_zeros g.band xs g.flag g.weighting gained.gain-record.result eg c.if1.false)
-
-pub analyse_spec : {M : Type 1} → statement M
-analyse_spec =
-    tie.close
-    (tie.spec
-    (λ c κs. search rules)
-    (λ c κs. search rules)
-    (λ c. search rules)
-    (λ c κs. search rules)
-    (λ c κs. search rules)
-    (λ c κs. search rules)
-    returns
-    returns-2)
+    both g.band xs g.flag g.weighting gain (replicate 8 f0) eg (off_zeros g.band xs g.flag g.weighting gain eg c.if-gain.false)
