@@ -32,6 +32,14 @@ module _ (row : Row) (orders indices : List ℕ) (lines : List Float) where
         → FilteredRow line_decoded row (counted decoder_filter 1 orders indices) start lines after left
     one_counted after left a = rw (one_of_them decoder_filter orders indices) (one_run line_decoded row start lines first after left a)
 
+    -- the same of a count that is none or one
+    pub if_none : (filters : ℕ) → filters ≡ 0 → FilteredRow line_decoded row (counted decoder_filter filters orders indices) start lines start lines
+    if_none filters e = rw e none_counted
+
+    pub if_one : (filters : ℕ) (after left : List Float) → filters ≡ 1 → FilteredIn line_decoded row.first first start lines after left
+        → FilteredRow line_decoded row (counted decoder_filter filters orders indices) start lines after left
+    if_one filters after left e a = rw e (one_counted after left a)
+
     pub two_counted : (after left end result : List Float) → FilteredIn line_decoded row.first first start lines after left
         → FilteredIn line_decoded row.second second after left end result
         → FilteredRow line_decoded row (counted decoder_filter 2 orders indices) start lines end result

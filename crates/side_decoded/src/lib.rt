@@ -18,6 +18,7 @@ use row_bands::{Band, Row};
 // The counted filters, each in its band, the states carried from the first to the second. It answers
 // the states after them. It requires a row that lies within the lines, and sound side data: the doors
 // have just checked both.
+#[tactic(auto, using(crate::proofs::CountedFilters::if_none))]
 pub fn filters_decoded(
     row: Row,
     filters: u8,
