@@ -65,6 +65,7 @@ const AC_TNS_COEF_CUMFREQ: [[u16; 17]; 8] = [
 
 // One lookup serves both coefficient tables. It requires a table of its rows and columns, which the checker
 // computes of each.
+#[tactic(auto, using(cost_tables::proofs::PastTables::outside_rows, cost_tables::proofs::PastTables::outside_columns))]
 fn of_coefficient(table: &[[u16; 17]; 8], place: u8, index: u8) -> u16
     requires { (length table.now ≡ 8) × (wide 17 table.now ≡ true) }
     ensures { result ≡ cell table.now place index }
