@@ -57,6 +57,12 @@ unfolding read_verdict
 no_bytes number [] h = refl
 no_bytes number (byte ∷ bytes) h = absurd (omega arith)
 
+pub short_bytes : (number : ℕ) (bytes : List ℕ) → 0 < length bytes → length bytes < 512 → read_verdict number bytes ≡ refused (numbered 9)
+short_bytes number bytes some few = some_bytes number bytes some ∙ too_short number (take 512 bytes) (omega (arith, length-take 512 bytes))
+
+pub past_bytes : (number : ℕ) (bytes : List ℕ) → 512 ≤ length bytes → 65535 < number → read_verdict number bytes ≡ refused (numbered 9)
+past_bytes number bytes long past = some_bytes number bytes (omega arith) ∙ too_many number (take 512 bytes) (omega (arith, length-take 512 bytes)) past
+
 -- ---- a block that is accepted
 
 pub record AcceptedBlock (number : ℕ) (block records : List ℕ) : Type 0 where

@@ -52,6 +52,7 @@ fn records_of(block: &[u8]) -> BlockAnswer
 }
 
 // Checks 10 to 12.
+#[tactic(auto, using(block_parts::proofs::Counted::few_records), unfolding(crate::specs::Blocks::block_verdict))]
 fn judged(number: u64, block: &[u8]) -> BlockAnswer
     requires { (length block.now ≡ 512) × (number ≤ 65535) }
     ensures { block_says result ≡ on_accepted count_of (block_verdict number block.now) }
@@ -73,6 +74,7 @@ fn judged(number: u64, block: &[u8]) -> BlockAnswer
 
 // Checks block `number` in the first 512 of some bytes, and answers how many records it gives: they
 // stand in it from byte 8 on. No bytes hold no block, and give no records.
+#[tactic(auto, using(crate::proofs::Verdicts::no_bytes, crate::proofs::Verdicts::some_bytes, crate::proofs::Verdicts::short_bytes, crate::proofs::Verdicts::past_bytes))]
 pub fn check_block(number: u64, bytes: &[u8]) -> BlockAnswer
     ensures { block_says result ≡ on_accepted count_of (read_verdict number bytes.now) }
 {
