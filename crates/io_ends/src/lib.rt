@@ -38,10 +38,10 @@ fn put_end(put: Done, line: &mut [u8]) -> usize
 }
 
 // Reports a refusal on standard error, and to the launcher.
-fn tell(put: Done) {
+fn tell(rt: &HostRuntime, put: Done) {
     let mut line = [0u8; 64];
     let count = put_end(put, &mut line);
-    refuse(&line[..count]);
+    refuse(rt, &line[..count]);
 }
 
 // What is done next. Where what was put could not be written, a refusal is not reported: the blocks before it,
@@ -61,18 +61,18 @@ fn next_of(put: Done, is_written: bool) -> Next
 
 // Writes what was put, and then reports the refusal, if there is one. Answers whether to go on. It requires
 // that no more was put than the output has (see the heading).
-pub fn settled(put: Done, out: &[u8]) -> bool
+pub fn settled(rt: &HostRuntime, put: Done, out: &[u8]) -> bool
     requires { put.count ≤ length out.now }
     ensures { result ≡ true → end_of put.ended put.next ≡ whole }
 {
     let count = put.count;
-    let is_written = write(&out[..count]);
+    let is_written = write(rt, &out[..count]);
     let next = next_of(put, is_written);
     match next {
         Next::GoesOn => true,
         Next::Stops => false,
         Next::Tells => {
-            tell(put);
+            tell(rt, put);
             false
         }
     }

@@ -121,13 +121,13 @@ fn answered(way: Way, got: Read, input: &mut [u8], standing: Standing, output: &
 
 // Writes what was put, and answers where the program stands then: it goes on only where there is more to read,
 // nothing was refused, and what was put could be written.
-fn written(turned: Turned, output: &[u8]) -> Standing
+fn written(rt: &HostRuntime, turned: Turned, output: &[u8]) -> Standing
     requires { turned.put.count ≤ length output.now }
     ensures { Settles turned result }
 {
     let stands = turned.standing;
     let put = turned.put;
-    let goes_on = settled(put, output);
+    let goes_on = settled(rt, put, output);
     Standing {
         number: stands.number,
         held: stands.held,
@@ -138,13 +138,13 @@ fn written(turned: Turned, output: &[u8]) -> Standing
 
 // One read more is made. Where the program goes on and none is left to make, it ends there, and that is said as a
 // failure: no run makes so many, but none may end as if its output were whole.
-fn after_read(standing: Standing) -> Standing
+fn after_read(rt: &HostRuntime, standing: Standing) -> Standing
     requires { standing.reads < most_reads }
     ensures { result ≡ after_read standing }
 {
     let reads = standing.reads + 1;
     if is_spent(standing.goes_on, reads) {
-        complain_of_reads();
+        complain_of_reads(rt);
         return Standing {
             number: standing.number,
             held: standing.held,
@@ -161,23 +161,29 @@ fn after_read(standing: Standing) -> Standing
 }
 
 // One read, what comes of it, and where the program stands once that is written.
-fn turn(way: Way, input: &mut [u8], standing: Standing, output: &mut [u8]) -> Standing
+fn turn(
+    rt: &HostRuntime,
+    way: Way,
+    input: &mut [u8],
+    standing: Standing,
+    output: &mut [u8],
+) -> Standing
     requires { (standing.number ≤ 65536) × (standing.held < 512) × (length input.old ≡ 61440) × (length output.old ≡ 66048) × (standing.reads < most_reads) }
     ensures { Turns standing result }
 {
     let held = standing.held;
-    let got = read_after(input, held);
+    let got = read_after(rt, input, held);
     let turned = answered(way, got, input, standing, output);
-    let stands = written(turned, output);
-    after_read(stands)
+    let stands = written(rt, turned, output);
+    after_read(rt, stands)
 }
 
 // Takes all of standard input to standard output.
-pub fn transfer(way: Way) {
+pub fn transfer(rt: &HostRuntime, way: Way) {
     let mut input = [0u8; 61440];
     let mut output = [0u8; 66048];
     let mut standing = begun();
     while standing.goes_on {
-        standing = turn(way, &mut input, standing, &mut output);
+        standing = turn(rt, way, &mut input, standing, &mut output);
     }
 }

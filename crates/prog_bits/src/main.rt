@@ -123,13 +123,13 @@ fn answered(got: Read, input: &mut [u8], standing: Standing, output: &mut [u8]) 
 
 // Writes the lines, and answers where the program stands then: it goes on only where there is more to read, and the
 // lines could be written.
-fn written(turned: Turned, output: &[u8]) -> Standing
+fn written(rt: &HostRuntime, turned: Turned, output: &[u8]) -> Standing
     requires { IsPrefixLen turned.count output.now }
     ensures { Settles turned result }
 {
     let stands = turned.standing;
     let count = turned.count;
-    let is_written = write(&output[..count]);
+    let is_written = write(rt, &output[..count]);
     Standing {
         frame: stands.frame,
         held: stands.held,
@@ -140,13 +140,13 @@ fn written(turned: Turned, output: &[u8]) -> Standing
 
 // One read more is made. Where the program goes on and none is left to make, it ends there, and that is said as a
 // failure: no run makes so many, but none may end as if its output were whole.
-fn after_read(standing: Standing) -> Standing
+fn after_read(rt: &HostRuntime, standing: Standing) -> Standing
     requires { standing.reads < most_reads }
     ensures { result ≡ after_read standing }
 {
     let reads = standing.reads + 1;
     if is_spent(standing.goes_on, reads) {
-        complain_of_reads();
+        complain_of_reads(rt);
         return Standing {
             frame: standing.frame,
             held: standing.held,
@@ -163,23 +163,23 @@ fn after_read(standing: Standing) -> Standing
 }
 
 // One read, what comes of it, and where the program stands once that is written.
-fn turn(input: &mut [u8], standing: Standing, output: &mut [u8]) -> Standing
+fn turn(rt: &HostRuntime, input: &mut [u8], standing: Standing, output: &mut [u8]) -> Standing
     requires { (16000 ≡ length input.old) × (65536 ≡ length output.old) × (standing.held < 20) × (standing.frame < 9223372036854775808) × (standing.reads < most_reads) }
     ensures { Turns standing result }
 {
     let held = standing.held;
-    let got = read_after(input, held);
+    let got = read_after(rt, input, held);
     let turned = answered(got, input, standing, output);
-    let stands = written(turned, output);
-    after_read(stands)
+    let stands = written(rt, turned, output);
+    after_read(rt, stands)
 }
 
 // A piece of input has 800 records, whose lines fit a piece of output whatever they say.
-fn main() {
+fn main(rt: HostRuntime) {
     let mut input = [0u8; 16000];
     let mut output = [0u8; 65536];
     let mut standing = begun();
     while standing.goes_on {
-        standing = turn(&mut input, standing, &mut output);
+        standing = turn(&rt, &mut input, standing, &mut output);
     }
 }

@@ -6,6 +6,6 @@
 use io_portion::Way;
 use io_transfer::transfer;
 
-fn main() {
-    transfer(Way::ToBlocks);
+fn main(rt: HostRuntime) {
+    transfer(&rt, Way::ToBlocks);
 }
