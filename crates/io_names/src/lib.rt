@@ -3,14 +3,21 @@
 // with a name cannot be.
 #![tactic(auto)]
 
-ghost use Rattle.std.specs.Prelude.{◌≡◌, true};
+ghost use Rattle.std.specs.Prelude.{◌≡◌, ◌≤◌, true, length, IfOk, IfSome};
+ghost use Rattle.std.specs.Fd.{file_raw_fd};
 ghost use Rattle.text_put.specs.Text.{Puts};
 ghost use Rattle.io_names.specs.Looks.{look_of};
 ghost use Rattle.io_names.specs.Said.{said_text};
 ghost use Rattle.io_names.specs.Opened.{is_apart};
 
-use io_paths::{c_path, folder_of, part_name};
+use io_paths::{folder_of, part_name};
 use io_streams::{complain, failed, say};
+use std::env::FillError;
+use std::fs::{File, Metadata, OpenOptions};
+use std::io::ErrorKind;
+use std::os::fd::{AsRawFd, IntoRawFd};
+use std::rt::Env;
+use std::{fs, io, str};
 use text_put::put;
 
 // What a look at a name finds: that nothing has it, that something has, or neither.
@@ -34,51 +41,84 @@ fn put_said(name: &[u8], what: &[u8], text: &mut [u8]) -> usize
 }
 
 // Says what failed of a file, by its name, and the system's reason.
-pub fn failed_at(name: &[u8]) {
+pub fn failed_at(rt: &HostRuntime, name: &[u8], reason: io::Error) {
     let mut text = [0u8; LONGEST];
     let count = put_said(name, b"", &mut text);
-    failed(&text[..count]);
+    failed(rt, &text[..count], reason);
 }
 
 // Says something else of a file, by its name.
-pub fn complain_of(name: &[u8], what: &[u8]) {
+pub fn complain_of(rt: &HostRuntime, name: &[u8], what: &[u8]) {
     let mut text = [0u8; LONGEST];
     let count = put_said(name, what, &mut text);
-    complain(&text[..count]);
+    complain(rt, &text[..count]);
 }
 
 // Says of a file, by its name, what is no failure.
-fn note(name: &[u8], what: &[u8]) {
+fn note(rt: &HostRuntime, name: &[u8], what: &[u8]) {
     let mut text = [0u8; LONGEST];
     let count = put_said(name, what, &mut text);
-    say(&text[..count]);
+    say(rt, &text[..count]);
 }
 
 // Says of a file that it is another than it was when it was first read.
-pub fn complain_of_change(name: &[u8]) {
-    complain_of(name, b": changed while it was read\n");
+pub fn complain_of_change(rt: &HostRuntime, name: &[u8]) {
+    complain_of(rt, name, b": changed while it was read\n");
 }
 
-// Opens a file to be read, and answers its descriptor, or one below 0 where it cannot be; that is said. A caller may
+// Why an argument is not taken, as the system would say it: it is missing, or longer than any path may be.
+const EINVAL: i32 = 22;
+
+const ENAMETOOLONG: i32 = 36;
+
+// Puts the name that an argument gives at the start of `name`, and answers its length, or why it is not there.
+pub fn argument(rt: &HostRuntime, number: usize, name: &mut [u8]) -> io::Result<usize>
+    ensures { IfOk result (λ count. count ≤ length name.new) }
+{
+    match rt.arg(number, name) {
+        Ok(count) => Ok(count),
+        Err(FillError::NotPresent) => Err(io::Error::from_raw_os_error(EINVAL)),
+        Err(FillError::TooLong) => Err(io::Error::from_raw_os_error(ENAMETOOLONG)),
+    }
+}
+
+// A path as the system is given it: as text. One that is not UTF-8 names no file here.
+fn text_of(path: &[u8]) -> io::Result<&str> {
+    match str::from_utf8(path) {
+        Ok(text) => Ok(text),
+        Err(_) => Err(io::Error::new(ErrorKind::InvalidInput, "the name is not UTF-8")),
+    }
+}
+
+fn open_read(rt: &HostRuntime, path: &[u8]) -> io::Result<File> {
+    File::open(rt, text_of(path)?)
+}
+
+// Opens a file to be read, and answers it, or none where it cannot be; that is said. A caller may
 // have closed descriptors that programs write to, 1 to 3: the file is opened until those are taken, so that what is
-// written there goes into no file that is made.
-pub fn opened(path: &[u8]) -> i32
-    ensures { is_apart result ≡ true }
+// written there goes into no file that is made. Those that take them stay open.
+pub fn opened(rt: &HostRuntime, path: &[u8]) -> Option<File>
+    ensures { IfSome result (λ file. is_apart (file_raw_fd file) ≡ true) }
 {
     let mut taken = 0u64;
     while taken < 5 {
-        let descriptor = os::open_read(path);
-        if descriptor < 0 {
-            failed_at(path);
-            return -1;
-        }
-        if descriptor > 3 {
-            return descriptor;
+        match open_read(rt, path) {
+            Ok(file) => {
+                let descriptor = file.as_raw_fd();
+                if descriptor > 3 {
+                    return Some(file);
+                }
+                file.into_raw_fd();
+            }
+            Err(reason) => {
+                failed_at(rt, path, reason);
+                return None;
+            }
         }
         taken += 1;
     }
-    complain_of(path, b": cannot be opened\n");
-    -1
+    complain_of(rt, path, b": cannot be opened\n");
+    None
 }
 
 // What a look finds: by whether a link was read there, whether the system said that something else is there,
@@ -98,60 +138,69 @@ fn look_of(is_link: bool, is_other: bool, is_none: bool) -> Look
     Look::Unknown
 }
 
-// Whether nothing has this name yet, not even a link to nothing. A link can be read; of anything else that
-// is there the system says that it is no link. What stands in the way is said.
-pub fn is_free(path: &[u8]) -> bool {
-    if path.len() > 4095 {
-        // No name is as long: to open it says so.
-        os::open_read(path);
-        failed_at(path);
-        return false;
-    }
-    let name = c_path(path);
-    let mut text = [0u8; 1];
-    let got = libc::readlink(&name, &mut text);
-    let why = os::errno();
-    let look = look_of(got >= 0, why == libc::EINVAL, why == libc::ENOENT);
+fn look_at(rt: &HostRuntime, path: &[u8]) -> io::Result<Metadata> {
+    fs::symlink_metadata(rt, text_of(path)?)
+}
+
+// Whether nothing has this name yet, not even a link to nothing: a link is looked at itself. What stands in the way
+// is said.
+pub fn is_free(rt: &HostRuntime, path: &[u8]) -> bool {
+    let found = look_at(rt, path);
+    let look = match &found {
+        Ok(there) => look_of(there.is_symlink(), !there.is_symlink(), false),
+        Err(reason) => look_of(false, false, reason.kind() == ErrorKind::NotFound),
+    };
     match look {
         Look::Free => true,
         Look::Taken => {
-            complain_of(path, b": File exists\n");
+            complain_of(rt, path, b": File exists\n");
             false
         }
         Look::Unknown => {
-            failed_at(path);
+            if let Err(reason) = found {
+                failed_at(rt, path, reason);
+            }
             false
         }
     }
 }
 
-// Makes a file beside the place of this one, under the first such name that is not taken. Answers its
-// descriptor, or one below 0, and gives the number in its name.
-pub fn make_part(path: &[u8], number: &mut u64) -> i32 {
+fn create(rt: &HostRuntime, path: &[u8]) -> io::Result<File> {
+    OpenOptions::new()
+        .write(true)
+        .create_new(true)
+        .open(rt, text_of(path)?)
+}
+
+// Makes a file beside the place of this one, under the first such name that is not taken. Answers it, or why there
+// is none, which is that something exists where all of them are taken, and gives the number in its name.
+pub fn make_part(rt: &HostRuntime, path: &[u8], number: &mut u64) -> io::Result<File> {
     let mut name = [0u8; LONGEST];
     let mut tried = 0u64;
     while tried < 1000 {
         *number = tried;
         let count = part_name(path, tried, &mut name);
-        let descriptor = os::create(&name[..count]);
-        if descriptor >= 0 {
-            return descriptor;
-        }
-        if os::errno() != libc::EEXIST {
-            return -1;
+        match create(rt, &name[..count]) {
+            Ok(file) => return Ok(file),
+            Err(reason) => {
+                if reason.kind() != ErrorKind::AlreadyExists {
+                    return Err(reason);
+                }
+            }
         }
         tried += 1;
     }
-    -1
+    Err(io::Error::from(ErrorKind::AlreadyExists))
 }
 
 // Names the parts of files that were there before the part of this number was made beside the place of this file.
-pub fn note_parts(path: &[u8], number: u64) {
+pub fn note_parts(rt: &HostRuntime, path: &[u8], number: u64) {
     let mut name = [0u8; LONGEST];
     let mut old = 0u64;
     while old < number {
         let count = part_name(path, old, &mut name);
         note(
+            rt,
             &name[..count],
             b": a rescue that was killed left this file, unless one is running; if none is, remove it\n",
         );
@@ -159,38 +208,45 @@ pub fn note_parts(path: &[u8], number: u64) {
     }
 }
 
+fn settle(rt: &HostRuntime, folder: &[u8]) -> io::Result<()> {
+    open_read(rt, folder)?.sync_all()
+}
+
 // What is known of a folder's names reaches the disk, as far as its file system can do that.
-fn folder_settled(path: &[u8]) {
+fn folder_settled(rt: &HostRuntime, path: &[u8]) {
     let folder = folder_of(path);
-    let mut descriptor = -1i32;
     if folder == 0 {
-        descriptor = os::open_read(b".");
+        let _ = settle(rt, b".");
     } else {
-        descriptor = os::open_read(&path[..folder]);
-    }
-    if descriptor >= 0 {
-        libc::fsync(descriptor);
-        libc::close(descriptor);
+        let _ = settle(rt, &path[..folder]);
     }
 }
 
+fn rename(rt: &HostRuntime, name: &[u8], path: &[u8]) -> io::Result<()> {
+    fs::rename(rt, text_of(name)?, text_of(path)?)
+}
+
 // Gives the file that was made its own name, once it is on the disk. Answers whether it has it.
-pub fn named(descriptor: i32, name: &[u8], path: &[u8]) -> bool {
-    if libc::fsync(descriptor) != 0 {
-        failed_at(path);
+pub fn named(rt: &HostRuntime, file: File, name: &[u8], path: &[u8]) -> bool {
+    if let Err(reason) = file.sync_all() {
+        failed_at(rt, path, reason);
         return false;
     }
-    if libc::close(descriptor) != 0 {
-        failed_at(path);
+    drop(file);
+    if !is_free(rt, path) {
         return false;
     }
-    if !is_free(path) {
+    if let Err(reason) = rename(rt, name, path) {
+        failed_at(rt, path, reason);
         return false;
     }
-    if os::rename(name, path) != 0 {
-        failed_at(path);
-        return false;
-    }
-    folder_settled(path);
+    folder_settled(rt, path);
     true
+}
+
+// Removes the file that was made, as far as the system does that.
+pub fn removed(rt: &HostRuntime, name: &[u8]) {
+    if let Ok(text) = text_of(name) {
+        let _ = fs::remove_file(rt, text);
+    }
 }
