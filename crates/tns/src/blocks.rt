@@ -9,8 +9,7 @@ use block_write::write_block;
 
 // Writes up to twenty records as block `number`, as `block_write::write_block`. A refused call writes
 // nothing.
-#[unsafe(no_mangle)]
-pub extern "C" fn tns_block_write(number: u64, records: &[u8], block: &mut [u8; 512]) -> BlockTold
+pub fn tns_block_write(number: u64, records: &[u8], block: &mut [u8; 512]) -> BlockTold
     ensures { TnsBlock (write_verdict number records.now) count_in block.old block.new result }
 {
     let answer = write_block(number, records, block);
@@ -19,8 +18,7 @@ pub extern "C" fn tns_block_write(number: u64, records: &[u8], block: &mut [u8; 
 
 // Checks block `number` and writes its records, as `block_read::read_block`. A refused call writes
 // nothing.
-#[unsafe(no_mangle)]
-pub extern "C" fn tns_block_read(number: u64, block: &[u8], records: &mut [u8; 480]) -> BlockTold
+pub fn tns_block_read(number: u64, block: &[u8], records: &mut [u8; 480]) -> BlockTold
     ensures { TnsBlock (read_verdict number block.now) count_of records.old records.new result }
 {
     let answer = read_block(number, block, records);

@@ -33,8 +33,7 @@ use shape_gain::{gain_numbers, on_numbers};
 use side_data::{bytes_of, coefficients_of};
 
 // Decodes a spectrum in place, as `call_decode::decode`. A refused call leaves every line as it was.
-#[unsafe(no_mangle)]
-pub extern "C" fn tns_decode(
+pub fn tns_decode(
     duration: u8,
     bandwidth: u8,
     filters: u8,
@@ -54,8 +53,7 @@ pub extern "C" fn tns_decode(
 
 // Decodes a spectrum into an output of the same length, as `call_restart::save`, and writes the eight
 // states as they are before line n. A refused call writes neither.
-#[unsafe(no_mangle)]
-pub extern "C" fn tns_decode_save(
+pub fn tns_decode_save(
     duration: u8,
     bandwidth: u8,
     filters: u8,
@@ -76,8 +74,7 @@ pub extern "C" fn tns_decode_save(
 
 // Writes the output of a spectrum from line n on, as `call_restart::restart`, going on from any eight
 // states. Nothing is written below n, and nothing by a refused call.
-#[unsafe(no_mangle)]
-pub extern "C" fn tns_decode_restart(
+pub fn tns_decode_restart(
     duration: u8,
     bandwidth: u8,
     filters: u8,
@@ -100,8 +97,7 @@ pub extern "C" fn tns_decode_restart(
 // 20 bytes of the bits program, its coefficients, gain and damping of the first filter and then of the
 // second, and for each filter 1 if it is on, else 0. A refused one leaves all five lists as they were.
 // `flag` is the near-Nyquist flag.
-#[unsafe(no_mangle)]
-pub extern "C" fn tns_encode(
+pub fn tns_encode(
     duration: u8,
     bandwidth: u8,
     bits: u64,
@@ -131,8 +127,7 @@ pub extern "C" fn tns_encode(
 }
 
 // The cost of a frame's side data in bits, as `cost_call::cost`.
-#[unsafe(no_mangle)]
-pub extern "C" fn tns_cost(weighting: u8, filters: u8, orders: &[u8], indices: &[u8]) -> Answer
+pub fn tns_cost(weighting: u8, filters: u8, orders: &[u8], indices: &[u8]) -> Answer
     ensures answer { result ≡ answer_for its_bits (cost_of weighting filters orders.now indices.now) }
     ensures few { result.bits ≤ 168 }
 {
@@ -145,8 +140,7 @@ pub extern "C" fn tns_cost(weighting: u8, filters: u8, orders: &[u8], indices: &
 
 // The same cost, as `cost_parts::cost_2048ths`: the bits, and beside them what each filter costs in 2048ths
 // of a bit, before it is rounded. A refused call leaves both numbers as they were.
-#[unsafe(no_mangle)]
-pub extern "C" fn tns_cost_2048ths(
+pub fn tns_cost_2048ths(
     weighting: u8,
     filters: u8,
     orders: &[u8],

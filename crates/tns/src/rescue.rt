@@ -8,8 +8,7 @@ use block_rescue::rescue_block;
 
 // Rescues a block as the one of this number, as `block_rescue::rescue_block`. A refused call writes
 // nothing.
-#[unsafe(no_mangle)]
-pub extern "C" fn tns_block_rescue(number: u64, bytes: &[u8], block: &mut [u8; 512]) -> RescueTold
+pub fn tns_block_rescue(number: u64, bytes: &[u8], block: &mut [u8; 512]) -> RescueTold
     ensures { TnsRescues number (take 512 bytes.now) block.old block.new result }
 {
     let answer: RescueAnswer = rescue_block(number, bytes, block);

@@ -1,0 +1,10 @@
+-- It answers what the door says, of at most twenty records.
+use Rattle.block_check.proofs.Verdicts.{write_few}
+use Rattle.tns.proofs.BlocksTold.{few_said, told_too}
+use Rattle.tns.proofs.blocks.tns_block_write.Goals as goal
+
+pub block_told-requires : goal.block_told-requires
+block_told-requires c = few_said c.write_block-answer.ensures (write_few c.args.number c.args.records.now)
+
+pub returns : goal.returns
+returns c = told_too c.write_block-answer.ensures c.block_told.ensures
