@@ -10,6 +10,7 @@ ghost use Rattle.io_reading.specs.Stands.{at_start, ended_as, after_read, after_
 use io_names::complain_of;
 use io_progress::{Progress, erase, put_name};
 use io_streams::{Read, is_spent, read_from};
+use std::fs::File;
 
 // Where a reading stands between two pieces: the place of the next block, how many are kept before it, how
 // many bytes of a block not yet whole are held at the start of the piece, how many reads were made, whether
@@ -66,7 +67,7 @@ pub fn after_write(standing: Standing, is_written: bool) -> Standing
 // One read more is made. Where a reading goes on and none is left to make, it ends there, and that is said as a
 // failure: no run makes so many, but none may end as if it were whole. It requires that there was one left to make,
 // as both readings see to before each.
-pub fn after_read(standing: Standing, name: &[u8], shows: Progress) -> Standing
+pub fn after_read(rt: &HostRuntime, standing: Standing, name: &[u8], shows: Progress) -> Standing
     requires { standing.reads < most_reads }
     ensures { result ≡ after_read standing }
 {
@@ -80,8 +81,8 @@ pub fn after_read(standing: Standing, name: &[u8], shows: Progress) -> Standing
         is_well: standing.is_well,
     };
     if is_spent(standing.goes_on, reads) {
-        erase(shows);
-        complain_of(name, b": too many reads\n");
+        erase(rt, shows);
+        complain_of(rt, name, b": too many reads\n");
         return ended(next, false);
     }
     next
@@ -103,7 +104,8 @@ pub fn is_same(counted: Standing, mended: Standing) -> bool
 
 // One read of a file, by its name where it fails.
 pub fn read_named(
-    descriptor: i32,
+    rt: &HostRuntime,
+    file: &File,
     name: &[u8],
     shows: Progress,
     piece: &mut [u8],
@@ -113,5 +115,6 @@ pub fn read_named(
 {
     let mut text = [0u8; 4200];
     let count = put_name(shows, name, &mut text);
-    read_from(descriptor, &text[..count], piece, held)
+    let mut input = file;
+    read_from(rt, &mut input, &text[..count], piece, held)
 }
