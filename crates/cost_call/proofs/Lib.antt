@@ -1,4 +1,5 @@
 -- The laws that belong to no one function.
 pub mod Costs
 pub mod AtPlace
+pub mod CostAnswers
 pub mod Determined

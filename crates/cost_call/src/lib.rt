@@ -41,6 +41,7 @@ pub fn counted_bits(weighting: u8, filters: u8, orders: &[u8], indices: &[u8]) -
 
 // The cost of a frame's side data, for any numbers and lists of any lengths: refusals 4 to 8, or the
 // bits.
+#[tactic(auto, using(crate::proofs::CostAnswers::refused_early, crate::proofs::CostAnswers::refused_late, crate::proofs::CostAnswers::bits_stand))]
 pub fn cost(weighting: u8, filters: u8, orders: &[u8], indices: &[u8]) -> CostAnswer
     ensures { Priced (cost_of weighting filters orders.now indices.now) result }
 {
