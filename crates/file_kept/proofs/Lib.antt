@@ -1,2 +1,4 @@
 -- The laws that belong to no one function.
 pub mod PieceBounds
+pub mod KeptFrom
+pub mod RecordsFrom
