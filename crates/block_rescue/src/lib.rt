@@ -34,6 +34,7 @@ fn body_of(number: u16, kept: &[u8]) -> [u8; 512]
 
 // Rescues the block in the first 512 of some bytes, as the one of this number: an accepted call writes
 // it to `block` as it becomes, and answers the number that stood in it. A refused one writes nothing.
+#[tactic(auto, unfolding(block_kept::specs::Kept::kept_checks, crate::specs::Rescue::rescue_verdict))]
 pub fn rescue_block(number: u64, bytes: &[u8], block: &mut [u8; 512]) -> RescueAnswer
     ensures { RescueDone number (take 512 bytes.now) block.old block.new result }
 {

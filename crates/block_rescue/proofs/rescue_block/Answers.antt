@@ -3,7 +3,6 @@ use mathlib.Core.Path.{◌≡◌, refl, sym, ◌∙◌, ap}
 use mathlib.Core.List.{List, ◌++◌}
 use Prim.Native.Nat.{ℕ, ◌≤◌}
 use native.Mathlib.Omega.{arith}
-use borrow.Author.Rules.{rules}
 use lib.ListN.{length, take, drop, replicate, length-take, length-drop}
 use lib.Seq.{take_at}
 use Rattle.law_lists.specs.Places.{part}
@@ -16,9 +15,8 @@ use Rattle.block_kept.specs.Kept.{kept_verdict, rescue_says}
 use Rattle.block_kept.specs.declared.RescueAnswer.{RescueAnswer}
 use Rattle.block_kept.proofs.Kept.{own_first, kept_long}
 use Rattle.block_rescue.specs.Rescue.{renumbered, rescue_verdict, RescueDone}
-use Rattle.block_rescue.proofs.Rescue.{rescue_fault, takes_number, no_number}
-use Rattle.block_rescue.proofs.rescue_block.Statement.{statement}
-use Rattle.block_rescue.proofs.rescue_block.Tie as tie
+use Rattle.block_rescue.proofs.Rescue.{rescue_fault, takes_number}
+use Rattle.block_rescue.proofs.rescue_block.Goals as goal
 
 -- what was done, by the step's verdict
 by_verdict : {number : ℕ} {block found left : List ℕ} {result : RescueAnswer} (v : Verdict (List ℕ)) → rescue_verdict number block ≡ v
@@ -41,55 +39,23 @@ made number bytes body block long e f =
     f ∙ ap (λ (b : List ℕ). b ++ sum_bytes b) (its ∙ ap (λ (l : List ℕ). word_bytes number ++ l) (sym (part_of_first 2 508 512 bytes (omega arith))))
 
 -- what the checks of a block that is kept answered
-kept : (c : tie.After-known-told2) →
-    let bytes = c.before.before.before.before.before.args.bytes.now in
-    MadeFrom (λ _. number_in bytes) (kept_verdict (take 512 bytes)) c.before.answer2.given.0.0
-kept c =
-    let told = c.before in
-    accepted_too _ _ _ (sym (ap rescue_says told.answer2.given.1) ∙ told.before.before.check-kept.ensures)
+module _ (bytes : List ℕ) (own : ℕ) (says : accepted own ≡ on_accepted (λ _. number_in bytes) (kept_verdict (take 512 bytes))) where
+  kept : MadeFrom (λ _. number_in bytes) (kept_verdict (take 512 bytes)) own
+  kept = accepted_too _ _ _ says
 
-long : (c : tie.After-known-told2) → 512 ≤ length c.before.before.before.before.before.args.bytes.now
-long c =
-    let bytes = c.before.before.before.before.before.args.bytes.now in
-    omega (arith, kept_long (take 512 bytes) (kept c).of (kept c).verdict, length-take 512 bytes)
+  long : 512 ≤ length bytes
+  long = omega (arith, kept_long (take 512 bytes) kept.of kept.verdict, length-take 512 bytes)
 
-returns : tie.Need-returns
-returns c =
-    let g = c.before.before.before.before.before.before.args in
-    by_verdict _ (no_number g.number (take 512 g.bytes.now) (kept c.before).of (kept c.before).verdict c.if1.true) refl refl
+pub slice_bounds-body_of-end : goal.slice_bounds-body_of-end
+slice_bounds-body_of-end c = omega (arith, long c.args.bytes.now c.in-Kept.own c.in-Kept.ensures)
 
-returns-2 : tie.Need-returns-2
-returns-2 c =
-    let told = c.before in
-    let called = told.before.before in
-    let g = called.before.before.args in
-    let says = sym (ap rescue_says told.answer.given.1) ∙ called.check-kept.ensures in
-    by_verdict _ (rescue_fault g.number (take 512 g.bytes.now) _ (refused_too _ _ _ says)) refl refl
+pub returns-in-Refused : goal.returns-in-Refused
+returns-in-Refused c = by_verdict _ (rescue_fault c.args.number (take 512 c.args.bytes.now) _ (refused_too _ _ _ c.in-Refused.ensures)) refl refl
 
-returns-3 : tie.Need-returns-3
-returns-3 c =
-    let body = c.before in
-    let tested = body.before.before in
-    let told = tested.before in
-    let g = told.before.before.before.before.before.args in
-    let bytes = g.bytes.now in
-    by_verdict _ (takes_number g.number (take 512 bytes) (kept told).of (kept told).verdict (omega arith))
-    (ap accepted ((kept told).made_of ∙ sym (own_first bytes)))
-    (made g.number bytes body.body_of.result c.with-sums.result (long told) body.body_of.ensures c.with-sums.ensures)
-
-pub rescue_block_spec : {M : Type 1} → statement M
-rescue_block_spec =
-    tie.close
-    (tie.spec
-    (λ c κs. search rules)
-    (λ c. search rules)
-    (λ c. search rules)
-    returns
-    (λ c. search rules)
-    (λ c. search rules)
-    (λ c. search rules)
-    (λ c. omega (arith, long c.before))
-    (λ c κs. omega (arith, c.body-of-arg.given))
-    (λ c κs. search rules)
-    returns-2
-    returns-3)
+pub returns-else-number-gt65535 : goal.returns-else-number-gt65535
+returns-else-number-gt65535 c =
+    let bytes = c.args.bytes.now in
+    let own = kept bytes c.in-Kept.own c.in-Kept.ensures in
+    by_verdict _ (takes_number c.args.number (take 512 bytes) own.of own.verdict c.if-number-gt65535.false)
+    (ap accepted (own.made_of ∙ sym (own_first bytes)))
+    (made c.args.number bytes c.body_of.result c.with_sums-made.result (long bytes c.in-Kept.own c.in-Kept.ensures) c.body_of.ensures c.with_sums-made.ensures)
