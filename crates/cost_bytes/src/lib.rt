@@ -15,6 +15,7 @@ pub enum BytesAnswer {
 }
 
 // The cost of the side data in the first 20 of some bytes.
+#[tactic(auto, using(crate::proofs::BytesCost::too_few, crate::proofs::BytesCost::enough))]
 pub fn bytes_cost(bytes: &[u8]) -> BytesAnswer
     ensures { bytes_say result ≡ line_of bytes.now }
 {
