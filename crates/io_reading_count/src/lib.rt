@@ -15,6 +15,7 @@ use io_progress::{Progress, erase, shown};
 use io_reading::{Standing, after_read, begun, ended, read_named};
 use io_rest::{keep_rest, whole_bytes};
 use io_streams::Read;
+use std::fs::File;
 
 // Counts the blocks to keep among the whole ones of the first `read` bytes. What is left of the bytes is
 // held.
@@ -51,7 +52,8 @@ fn answered(got: Read, input: &mut [u8], standing: Standing) -> Standing
 
 // One read, and what comes of it.
 fn count_turn(
-    descriptor: i32,
+    rt: &HostRuntime,
+    file: &File,
     name: &[u8],
     input: &mut [u8],
     standing: Standing,
@@ -61,23 +63,23 @@ fn count_turn(
     ensures { Turns standing result }
 {
     let held = standing.held;
-    let got = read_named(descriptor, name, shows, input, held);
+    let got = read_named(rt, file, name, shows, input, held);
     let stands = answered(got, input, standing);
-    after_read(stands, name, shows)
+    after_read(rt, stands, name, shows)
 }
 
 // Reads the file to its end, and answers how many blocks it has, how many are kept and how many bytes are
 // left over.
-pub fn count_pass(descriptor: i32, name: &[u8], progress: Progress) -> Standing
+pub fn count_pass(rt: &HostRuntime, file: &File, name: &[u8], progress: Progress) -> Standing
     ensures { result.goes_on ≡ false }
 {
     let mut input = [0u8; 61440];
     let mut standing = begun();
     let mut shows = progress;
     while standing.goes_on {
-        standing = count_turn(descriptor, name, &mut input, standing, shows);
-        shows = shown(shows, standing.place);
+        standing = count_turn(rt, file, name, &mut input, standing, shows);
+        shows = shown(rt, shows, standing.place);
     }
-    erase(shows);
+    erase(rt, shows);
     standing
 }
