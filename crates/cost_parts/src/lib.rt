@@ -30,6 +30,7 @@ fn two_costs(weighting: u8, filters: u8, orders: &[u8], indices: &[u8]) -> [u32;
 // The cost of a frame's side data, for any numbers and lists of any lengths: what `cost` answers, and beside
 // it the 2048ths of each filter. A refused call writes nothing. The answer is `cost`'s own, so its refusals
 // and its bits are found in one place; the costs are looked up once more for the parts (docs/DECISIONS.md).
+#[tactic(auto, using(crate::proofs::Planned::sound_if_priced))]
 pub fn cost_2048ths(
     weighting: u8,
     filters: u8,

@@ -1,6 +1,6 @@
 -- C-15: the bits of side data round each counted filter up on its own, by the law of cost_call. The encoder's result has these bits.
 use mathlib.Core.Path.{◌≡◌, refl}
-use mathlib.Core.List.{List, [], ◌∷◌}
+use mathlib.Core.List.{List, ◌∷◌}
 use Prim.Native.Nat.{ℕ}
 use lib.ListN.{replicate}
 use Rattle.law_rounding.specs.Floats.{f0}
