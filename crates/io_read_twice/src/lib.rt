@@ -18,31 +18,36 @@ use io_reading::{Standing, begun, ended, is_same};
 use io_reading_count::count_pass;
 use io_reading_mend::{Mending, mend_pass};
 use io_streams::refuse;
+use std::fs::File;
+use std::io::{Seek, SeekFrom};
 use text_summary::put_summary;
 
 // Whether the next read is at the file's start. A pipe has none.
-fn is_at_start(input: i32, name: &[u8]) -> bool {
-    if libc::lseek(input, 0, libc::SEEK_SET) != 0 {
-        failed_at(name);
-        return false;
+fn is_at_start(rt: &HostRuntime, input: &File, name: &[u8]) -> bool {
+    let mut input = input;
+    match input.seek(SeekFrom::Start(0)) {
+        Ok(_) => true,
+        Err(reason) => {
+            failed_at(rt, name, reason);
+            false
+        }
     }
-    true
 }
 
 // The first reading: how many blocks there are, how many are kept, and how many bytes are left over. Where it is
 // well there are numbers for all that are kept.
-pub fn first_reading(input: i32, name: &[u8], progress: Progress) -> Standing
+pub fn first_reading(rt: &HostRuntime, input: &File, name: &[u8], progress: Progress) -> Standing
     ensures { result.is_well ≡ true → result.kept ≤ 65536 }
 {
-    if !is_at_start(input, name) {
+    if !is_at_start(rt, input, name) {
         return ended(begun(), false);
     }
-    let counted = count_pass(input, name, progress);
+    let counted = count_pass(rt, input, name, progress);
     if !counted.is_well {
         return counted;
     }
     if are_too_many(counted.kept) {
-        refuse(b"refused 9\n");
+        refuse(rt, b"refused 9\n");
         return ended(counted, false);
     }
     counted
@@ -62,31 +67,31 @@ fn broken_off(mending: Mending) -> Mending
 // The second reading, into the file that is made, if one is. Where it is well it has found as many blocks, kept
 // blocks and bytes left over as the first, and what it answers is the sum of what came of its reads.
 pub fn second_reading(
-    input: i32,
+    rt: &HostRuntime,
+    input: &File,
     name: &[u8],
-    is_made: bool,
-    made: i32,
+    made: Option<&File>,
     made_name: &[u8],
     counted: Standing,
     progress: Progress,
 ) -> Mending
     ensures { result.standing.is_well ≡ true → (same_totals counted result.standing ≡ true) × Reached result }
 {
-    if !is_at_start(input, name) {
+    if !is_at_start(rt, input, name) {
         return Mending {
             standing: ended(counted, false),
             records: 0,
             is_reported: false,
         };
     }
-    let found = mend_pass(input, name, is_made, made, made_name, progress);
+    let found = mend_pass(rt, input, name, made, made_name, progress);
     if !found.standing.is_well {
         return found;
     }
     if is_same(counted, found.standing) {
         return found;
     }
-    complain_of_change(name);
+    complain_of_change(rt, name);
     broken_off(found)
 }
 
