@@ -21,6 +21,7 @@ pub enum SideAnswer {
 
 // The checks of side data that decode and cost share: refusals 4 to 7, in number order, the first
 // standing. Orders and indices are checked whether a filter uses them or not.
+#[tactic(auto, unfolding(crate::specs::Sides::side_checks))]
 pub fn check_side(filters: u8, orders: &[u8], indices: &[u8]) -> SideAnswer
     ensures { side_says result ≡ side_checks filters orders.now indices.now no_fault }
 {
