@@ -1,4 +1,4 @@
--- Any two results that a contract allows for one input coincide: the laws of the lower crates, cited for each exported function. What they leave in
+-- Any two results that a contract allows for one input coincide: the laws of the lower crates, cited for each function of this crate. What they leave in
 -- the lists that were lent coincides too.
 use mathlib.Core.List.{List}
 use Prim.Native.Nat.{ℕ}

@@ -1,6 +1,6 @@
-// The one crate whose functions C and Rust call. A slice passes as its pointer and length, and an
-// answer by value. Each function takes any numbers and lists and is its inner door: the answer's
-// numbers are those of the door's definition, as `answer_call` and `answer_block` give them.
+// The functions that C and Rust call, which the crate `tns_c` exports. Each takes any numbers and lists and
+// is its inner door: the answer's numbers are those of the door's definition, as `answer_call` and
+// `answer_block` give them.
 #![tactic(auto)]
 
 mod blocks;

@@ -1,0 +1,2 @@
+-- The law of the exported functions.
+pub mod Determined
