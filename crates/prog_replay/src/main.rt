@@ -8,61 +8,77 @@
 
 ghost use Rattle.std.specs.Prelude.{◌+◌, ◌<◌, ◌≤◌};
 
-use replay_list::{labelled, say};
+use replay_list::{labelled, read_full, say};
 use replay_record::record;
+use std::env::FillError;
+use std::io::Read;
+use std::rt::{Env, Files};
+use std::{fs, io};
 
 // One difference more, if the record differs. Its number ends the line.
-fn counted(differences: u64, number: u64, different: bool) -> u64
+fn counted(rt: &impl Print, differences: u64, number: u64, different: bool) -> u64
     requires { differences < 18446744073709551615 }
     ensures { result ≤ differences + 1 }
 {
     if !different {
         return differences;
     }
-    labelled(b" in record ", number);
-    say(b"\n");
+    labelled(rt, b" in record ", number);
+    say(rt, b"\n");
     differences + 1
 }
 
 // A list's last line.
-fn report(name: &[u8], records: u64, differences: u64) {
-    say(name);
-    labelled(b": ", records);
-    labelled(b" records, ", differences);
-    say(b" differences\n");
+fn report(rt: &impl Print, name: &[u8], records: u64, differences: u64) {
+    say(rt, name);
+    labelled(rt, b": ", records);
+    labelled(rt, b" records, ", differences);
+    say(rt, b" differences\n");
 }
 
 // All records of an open list.
-fn records(list: i32, name: &[u8]) {
+fn records(rt: &impl Print, list: &mut impl Read, name: &[u8]) {
     let mut number = 0u64;
     let mut differences = 0u64;
     while number < u64::MAX {
         let mut head = [0u8; 7];
-        if io::read_full(list, &mut head) == 0 {
+        if read_full(list, &mut head) == 0 {
             break;
         }
-        differences = counted(differences, number, record(list, head));
+        differences = counted(rt, differences, number, record(rt, list, head));
         number += 1;
     }
-    report(name, number, differences);
+    report(rt, name, number, differences);
 }
 
-// A list that cannot be opened has no records.
-fn opened(name: &[u8]) {
-    let list = os::open_read(name);
-    records(list, name);
-    libc::close(list);
+// A list that cannot be opened has no records. The system's files are named by text, and none is opened by a name
+// that is not.
+fn opened(rt: &(impl Files + Print), name: &[u8]) {
+    let list = match str::from_utf8(name) {
+        Ok(path) => fs::open(rt, path),
+        Err(_) => Err(io::Error::from(io::ErrorKind::InvalidFilename)),
+    };
+    match list {
+        Ok(mut list) => records(rt, &mut list, name),
+        Err(_) => report(rt, name, 0, 0),
+    }
 }
 
-// The list that an argument names.
-fn named(argument: usize) {
-    let mut name = io::buffer();
-    let length = os::arg(argument, &mut name);
-    opened(&name[..length]);
+// The list that an argument names. Answers whether there is such an argument.
+fn named(rt: &(impl Env + Files + Print), argument: usize) -> bool {
+    let mut name = [0u8; 4096];
+    match rt.arg(argument, &mut name) {
+        Ok(length) => opened(rt, &name[..length]),
+        Err(FillError::TooLong) => opened(rt, b""),
+        Err(FillError::NotPresent) => return false,
+    }
+    true
 }
 
-fn main() {
-    for argument in 1..os::arg_count() {
-        named(argument);
+fn main(rt: HostRuntime) {
+    for argument in 1..usize::MAX {
+        if !named(&rt, argument) {
+            break;
+        }
     }
 }

@@ -12,17 +12,18 @@ use replay_list::{
     line_compared, lines_compared, on_compared, orders_of, read_lines, say, side_compared,
     states_compared, states_of, two_words,
 };
+use std::io::Read;
 use tns::{tns_cost, tns_decode, tns_decode_restart, tns_decode_save, tns_encode};
 
-fn answer_compared(list: i32, found: Answer) -> bool {
-    let a = compared(list, found.refusal as u64, false);
-    let b = compared(list, found.place as u64, a);
-    let c = compared(list, found.found as u64, b);
-    compared(list, found.bits as u64, c)
+fn answer_compared(rt: &impl Print, list: &mut impl Read, found: Answer) -> bool {
+    let a = compared(rt, list, found.refusal as u64, false);
+    let b = compared(rt, list, found.place as u64, a);
+    let c = compared(rt, list, found.found as u64, b);
+    compared(rt, list, found.bits as u64, c)
 }
 
 // An index record: its one line becomes its coefficient, and its index stands as the answer's bits.
-fn index_compared(list: i32) -> bool {
+fn index_compared(rt: &impl Print, list: &mut impl Read) -> bool {
     let index = index_of(given_line(list));
     let answer = Answer {
         refusal: 0,
@@ -30,8 +31,8 @@ fn index_compared(list: i32) -> bool {
         found: 0,
         bits: index as u16,
     };
-    let a = answer_compared(list, answer);
-    line_compared(list, coefficient_of(index), a)
+    let a = answer_compared(rt, list, answer);
+    line_compared(rt, list, coefficient_of(index), a)
 }
 
 // A head: the call, its numbers, and how many orders and indices it has.
@@ -47,7 +48,7 @@ struct Call {
 }
 
 // An encode record. What the call may write to holds patterns, which a refusal must leave.
-fn encode_compared(list: i32, call: Call, lines: &mut [f32]) -> bool {
+fn encode_compared(rt: &impl Print, list: &mut impl Read, call: Call, lines: &mut [f32]) -> bool {
     let bits = two_words(list);
     let lent = float_of(0xa5a5_a5a5);
     let mut side = [0xa5u8; 20];
@@ -65,11 +66,11 @@ fn encode_compared(list: i32, call: Call, lines: &mut [f32]) -> bool {
         &mut gains,
         &mut on,
     );
-    let a = answer_compared(list, answer);
-    let b = side_compared(list, side, a);
-    let c = coefficients_compared(list, coefficients, b);
-    let d = gains_compared(list, gains, c);
-    on_compared(list, on, d)
+    let a = answer_compared(rt, list, answer);
+    let b = side_compared(rt, list, side, a);
+    let c = coefficients_compared(rt, list, coefficients, b);
+    let d = gains_compared(rt, list, gains, c);
+    on_compared(rt, list, on, d)
 }
 
 // The answer to a cost or decode record.
@@ -88,7 +89,7 @@ fn answered(call: Call, orders: &[u8], indices: &[u8], lines: &mut [f32]) -> Ans
 }
 
 // The same with the record's orders and indices.
-fn lists_answered(list: i32, call: Call, lines: &mut [f32]) -> Answer {
+fn lists_answered(list: &mut impl Read, call: Call, lines: &mut [f32]) -> Answer {
     let orders = orders_of(list);
     let indices = indices_of(list);
     let o = least(call.orders as usize, 3);
@@ -97,18 +98,19 @@ fn lists_answered(list: i32, call: Call, lines: &mut [f32]) -> Answer {
 }
 
 // A record but for its lines.
-fn call_compared(list: i32, call: Call, lines: &mut [f32]) -> bool {
+fn call_compared(rt: &impl Print, list: &mut impl Read, call: Call, lines: &mut [f32]) -> bool {
     if call.kind == 3 {
-        return encode_compared(list, call, lines);
+        return encode_compared(rt, list, call, lines);
     }
-    answer_compared(list, lists_answered(list, call, lines))
+    let answer = lists_answered(list, call, lines);
+    answer_compared(rt, list, answer)
 }
 
 // A record with lines: they are read, the call is made, and all that it leaves is compared.
-fn replayed(list: i32, call: Call, lines: &mut [f32]) -> bool {
+fn replayed(rt: &impl Print, list: &mut impl Read, call: Call, lines: &mut [f32]) -> bool {
     read_lines(list, lines);
-    let a = call_compared(list, call, lines);
-    lines_compared(list, lines, a)
+    let a = call_compared(rt, list, call, lines);
+    lines_compared(rt, list, lines, a)
 }
 
 // The answer to a save or restart record.
@@ -150,7 +152,8 @@ fn line_answered(
 // A save or restart record from its output on. The call is made with the record's orders and indices,
 // and all that it leaves is compared.
 fn output_compared(
-    list: i32,
+    rt: &impl Print,
+    list: &mut impl Read,
     call: Call,
     orders: [u8; 3],
     indices: [u8; 17],
@@ -171,23 +174,32 @@ fn output_compared(
         n,
         &mut states,
     );
-    let a = answer_compared(list, answer);
-    let b = states_compared(list, states, a);
-    lines_compared(list, output, b)
+    let a = answer_compared(rt, list, answer);
+    let b = states_compared(rt, list, states, a);
+    lines_compared(rt, list, output, b)
 }
 
 // A save or restart record: its lines are the spectrum, which stays as it is.
-fn line_replayed(list: i32, call: Call, spectrum: &mut [f32]) -> bool {
+fn line_replayed(rt: &impl Print, list: &mut impl Read, call: Call, spectrum: &mut [f32]) -> bool {
     read_lines(list, spectrum);
     let orders = orders_of(list);
     let indices = indices_of(list);
     let n = two_words(list) as usize;
     let m = given(list) as usize;
     if m > 401 {
-        return out_of_range();
+        return out_of_range(rt);
     }
     let mut output = [0.0f32; 401];
-    output_compared(list, call, orders, indices, spectrum, &mut output[0..m], n)
+    output_compared(
+        rt,
+        list,
+        call,
+        orders,
+        indices,
+        spectrum,
+        &mut output[0..m],
+        n,
+    )
 }
 
 // Whether a record has a call that does not exist, more of something than there is room for, or an index
@@ -199,29 +211,29 @@ fn beyond(call: Call, lines: usize) -> bool {
     call.kind > 5 || call.orders > 3 || call.indices > 17 || lines > 401
 }
 
-fn out_of_range() -> bool {
-    say(b"a call or a count beyond its range");
+fn out_of_range(rt: &impl Print) -> bool {
+    say(rt, b"a call or a count beyond its range");
     true
 }
 
-fn called(list: i32, call: Call) -> bool {
+fn called(rt: &impl Print, list: &mut impl Read, call: Call) -> bool {
     let n = given(list) as usize;
     if beyond(call, n) {
-        return out_of_range();
+        return out_of_range(rt);
     }
     if call.kind == 0 {
-        return index_compared(list);
+        return index_compared(rt, list);
     }
     let mut lines = [0.0f32; 401];
     let n = least(n, 401);
     if call.kind > 3 {
-        return line_replayed(list, call, &mut lines[0..n]);
+        return line_replayed(rt, list, call, &mut lines[0..n]);
     }
-    replayed(list, call, &mut lines[0..n])
+    replayed(rt, list, call, &mut lines[0..n])
 }
 
 // A record: its call is made, and all that it answers and leaves is compared. Answers whether it differs.
-pub fn record(list: i32, head: [u8; 7]) -> bool {
+pub fn record(rt: &impl Print, list: &mut impl Read, head: [u8; 7]) -> bool {
     let call = Call {
         kind: head[0],
         duration: head[1],
@@ -231,5 +243,5 @@ pub fn record(list: i32, head: [u8; 7]) -> bool {
         orders: head[5],
         indices: head[6],
     };
-    called(list, call)
+    called(rt, list, call)
 }
