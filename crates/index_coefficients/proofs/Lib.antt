@@ -1,4 +1,4 @@
 -- The laws that belong to no one function.
 pub mod CoefficientFactors
 pub mod Determined
-pub mod EightCoefficients
+pub mod InTable

@@ -26,6 +26,7 @@ const COEFFICIENTS: [f32; 17] = [
 ];
 
 // The coefficient of an index from 0 to 16, and 0 of any other.
+#[tactic(auto, using(crate::proofs::InTable::of_table, crate::proofs::InTable::past_table))]
 pub fn coefficient_of(index: u8) -> f32
     ensures { result ≡ coefficient_of index }
 {

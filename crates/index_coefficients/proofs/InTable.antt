@@ -1,4 +1,4 @@
--- What one turn of the loop of `eight_coefficients` puts at its place: the table's coefficient of an index in the table, and 0 past it.
+-- An index in the table has the table's coefficient, and one past it 0; and one place more of a loop that fills an array with coefficients.
 use Rattle.std.proofs.Common.{◌≡◌, ℕ, ◌+◌, ◌<◌, ◌≤◌, List, map, take, length, get_or, sym, arith}
 use Rattle.std.proofs.Math.ListN.{set}
 use Rattle.std.proofs.lemmas.List.{get_or_past}
