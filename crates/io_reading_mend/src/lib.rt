@@ -21,6 +21,7 @@ use io_reading::{Standing, after_read, after_write, begun, ended, read_named};
 use io_rescue::{Taken, rescue_piece};
 use io_rest::{keep_rest, whole_bytes};
 use io_streams::{Read, write_as, write_to};
+use std::fs::File;
 
 // Where the second reading stands: as a reading does, how many records the blocks have that are kept so far, and
 // whether the report has a line.
@@ -171,8 +172,8 @@ fn answered(
 // Writes what was put after a read: the blocks to the file that is made, if one is, and then what is said of them,
 // to a terminal in the place of how far the run is.
 fn is_put(
-    is_made: bool,
-    descriptor: i32,
+    rt: &HostRuntime,
+    made: Option<&File>,
     name: &[u8],
     output: &[u8],
     report: &[u8],
@@ -185,17 +186,18 @@ fn is_put(
     let lines = taken.lines;
     let mut text = [0u8; 4200];
     let count = put_name(shows, name, &mut text);
-    if is_made {
-        if !write_to(descriptor, &text[..count], &output[..bytes]) {
+    if let Some(file) = made {
+        let mut file = file;
+        if !write_to(rt, &mut file, &text[..count], &output[..bytes]) {
             return false;
         }
     }
     if lines == 0 {
         return true;
     }
-    give_way(shows);
+    give_way(rt, shows);
     let named = put_name(shows, b"standard output", &mut text);
-    write_as(&text[..named], &report[..lines])
+    write_as(rt, &text[..named], &report[..lines])
 }
 
 // The second reading begins.
@@ -223,10 +225,10 @@ fn added(mending: Mending, turned: Turned, standing: Standing) -> Mending
 
 // One read, what comes of it, and where the reading stands once that is written.
 fn mend_turn(
-    descriptor: i32,
+    rt: &HostRuntime,
+    file: &File,
     name: &[u8],
-    is_made: bool,
-    made: i32,
+    made: Option<&File>,
     made_name: &[u8],
     input: &mut [u8],
     mending: Mending,
@@ -239,17 +241,17 @@ fn mend_turn(
 {
     let standing = mending.standing;
     let held = standing.held;
-    let got = read_named(descriptor, name, shows, input, held);
+    let got = read_named(rt, file, name, shows, input, held);
     let turned = answered(got, input, standing, output, report);
     if turned.is_changed {
-        erase(shows);
-        complain_of_change(name);
+        erase(rt, shows);
+        complain_of_change(rt, name);
     }
     let stands = turned.standing;
     let taken = turned.taken;
-    let is_written = is_put(is_made, made, made_name, output, report, taken, shows);
+    let is_written = is_put(rt, made, made_name, output, report, taken, shows);
     let settled = after_write(stands, is_written);
-    let next = after_read(settled, name, shows);
+    let next = after_read(rt, settled, name, shows);
     added(mending, turned, next)
 }
 
@@ -257,10 +259,10 @@ fn mend_turn(
 // Answers what `count_pass` does, as it was found now, how many records the kept blocks have, and whether the
 // report has a line.
 pub fn mend_pass(
-    descriptor: i32,
+    rt: &HostRuntime,
+    file: &File,
     name: &[u8],
-    is_made: bool,
-    made: i32,
+    made: Option<&File>,
     made_name: &[u8],
     progress: Progress,
 ) -> Mending
@@ -273,9 +275,9 @@ pub fn mend_pass(
     let mut shows = progress;
     while mending.standing.goes_on {
         mending = mend_turn(
-            descriptor,
+            rt,
+            file,
             name,
-            is_made,
             made,
             made_name,
             &mut input,
@@ -284,8 +286,8 @@ pub fn mend_pass(
             &mut report,
             shows,
         );
-        shows = shown(shows, progress.size / 512 + mending.standing.place);
+        shows = shown(rt, shows, progress.size / 512 + mending.standing.place);
     }
-    erase(shows);
+    erase(rt, shows);
     mending
 }
