@@ -5,48 +5,50 @@
 // Assumes of the launcher (the script `tns`) what io_streams says, and that it gives one argument.
 #![tactic(auto)]
 
-use io_names::opened;
+use io_names::{argument, opened};
 use io_progress::{Progress, of_file};
 use io_read_twice::{first_reading, put_sum, second_reading};
 use io_reading::Standing;
 use io_reading_mend::Mending;
 use io_streams::{failed, refuse};
+use std::fs::File;
 
 // The file is sound if the report is empty. Of another it is said how much of it a rescue keeps.
-fn judge(found: Mending) {
+fn judge(rt: &HostRuntime, found: Mending) {
     if found.is_reported {
         let mut text = [0u8; 128];
         let count = put_sum(found, &mut text);
-        refuse(&text[..count]);
+        refuse(rt, &text[..count]);
     }
 }
 
 // The second reading, which makes no file.
-fn read_again(input: i32, name: &[u8], counted: Standing, progress: Progress) {
-    let found = second_reading(input, name, false, -1, b"", counted, progress);
+fn read_again(rt: &HostRuntime, input: &File, name: &[u8], counted: Standing, progress: Progress) {
+    let found = second_reading(rt, input, name, None, b"", counted, progress);
     if found.standing.is_well {
-        judge(found);
+        judge(rt, found);
     }
 }
 
-fn check(name: &[u8]) {
-    let input = opened(name);
-    if input < 0 {
-        return;
-    }
-    let progress = of_file(input);
-    let counted = first_reading(input, name, progress);
+// Checks what is in an open file.
+fn check_of(rt: &HostRuntime, input: &File, name: &[u8]) {
+    let progress = of_file(rt, input);
+    let counted = first_reading(rt, input, name, progress);
     if counted.is_well {
-        read_again(input, name, counted, progress);
+        read_again(rt, input, name, counted, progress);
     }
 }
 
-fn main() {
-    let mut name = io::buffer();
-    let length = os::arg(1, &mut name);
-    if os::errno() != 0 {
-        failed(b"tns: the name");
-        return;
+fn check(rt: &HostRuntime, name: &[u8]) {
+    if let Some(input) = opened(rt, name) {
+        check_of(rt, &input, name);
     }
-    check(&name[..length]);
+}
+
+fn main(rt: HostRuntime) {
+    let mut name = [0u8; 4096];
+    match argument(&rt, 1, &mut name) {
+        Ok(length) => check(&rt, &name[..length]),
+        Err(reason) => failed(&rt, b"tns: the name", reason),
+    }
 }
