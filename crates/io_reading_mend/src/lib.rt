@@ -97,13 +97,16 @@ fn blocks_mended(
     }
 }
 
+// How many blocks may be kept so far with numbers left for all those of a piece.
+const SURE: u64 = 65416;
+
 // Whether there are numbers for the blocks to keep among the whole ones of the first `read` bytes. Of 120
 // blocks that is asked only where it may not be so.
 fn has_numbers(kept: u64, input: &[u8], read: usize) -> bool
     requires { (kept ≤ 65536) × (read ≤ 61440) × (length input.now ≡ 61440) }
     ensures { result ≡ has_numbers kept (whole_blocks read input.now) }
 {
-    if kept <= 65416 {
+    if kept <= SURE {
         return true;
     }
     let whole = whole_bytes(512, read);

@@ -9,11 +9,11 @@ use Rattle.file_kept.proofs.PieceBounds.{kept_120}
 use Rattle.io_reading_mend.specs.SecondReading.{whole_blocks}
 use Rattle.io_reading_mend.proofs.has_numbers.Goals as goal
 
-pub returns-then-kept-le65416 : goal.returns-then-kept-le65416
-returns-then-kept-le65416 c =
+pub returns-then-kept-le-SURE : goal.returns-then-kept-le-SURE
+returns-then-kept-le-SURE c =
     let g = c.args in
     let few = kept_120 (whole_blocks g.read g.input.now) (omega (arith, c.requires.1, whole_within 512 g.read, length-take (whole_bytes 512 g.read) g.input.now)) in
-    sym (le-leb (g.kept + kept_in (whole_blocks g.read g.input.now)) 65536 (omega (arith, few, c.if-kept-le65416.true)))
+    sym (le-leb (g.kept + kept_in (whole_blocks g.read g.input.now)) 65536 (omega (arith, few, c.if-kept-le-SURE.true)))
 
 pub overflow_add-result : goal.overflow_add-result
 overflow_add-result c =
