@@ -46,7 +46,7 @@ def lists():
         if line.startswith("# ") and colon and " " not in name[2:]:
             says[name[2:]] = rest.strip().rstrip(".")
         elif colon and not line.startswith("#"):
-            uses[name] = rest.split()
+            uses[name.split()[0]] = rest.split()
     return {name: [d for d in rest if d in uses] for name, rest in uses.items()}, says
 
 
