@@ -1,7 +1,7 @@
 #!/usr/bin/env python3
 """Brings this repository's own definitions, fields and lemmas to today's spelling, after port.py: words in snake case.
 
-usage: python3 tools/respell.py    at the top of the repository, once, right after /opt/rattle/port/port.py
+usage: python3 tools/respell.py    at the top of the repository, once, right after port/port.py of the kit
 
 A definition `lineDecoded` becomes `line_decoded`, a lemma `passed-by-checks` becomes `passed_by_checks`. Types and facts, which
 begin with a capital letter, keep their names, and so do functions of src/, exported names, strings, inputs, outputs, and names that
