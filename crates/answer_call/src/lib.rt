@@ -1,19 +1,15 @@
-// How the exported functions give a verdict: four numbers, which C and Rust take by value. Only the
-// crate `tns` calls these functions, each with what a door has just answered.
+// How the exported functions give a verdict: four numbers, which C and Rust take by value. The crate `tns` calls these
+// functions, each with what a door has just answered; replay_record gives an index as an accepted answer's bits.
 #![tactic(auto)]
 
 ghost use Rattle.std.specs.Prelude.{◌≡◌, ◌≤◌};
-ghost use Rattle.check_verdicts.specs.Verdicts.{placed, accepted, refused, place_of, of_fault, no_bits, its_bits};
+ghost use Rattle.check_verdicts.specs.Verdicts.{placed, accepted, refused, place_of, of_fault, no_bits, its_bits, verdict_by};
 ghost use Rattle.check_refusals.specs.Refusals.{says};
 ghost use Rattle.check_line.specs.LineChecks.{line_says};
-ghost use Rattle.cost_call.specs.Cost.{cost_says};
-ghost use Rattle.call_restart.specs.Restart.{line_answer_says};
 ghost use Rattle.answer_call.specs.Answers.{answer_for};
 
-use call_restart::LineAnswer;
 use check_line::LineRefusal;
 use check_refusals::Refusal;
-use cost_call::CostAnswer;
 
 // What a call answers. Refusal 0 says that it is accepted, and any other is the refusal's number.
 // Place and found are those of refusals 6 and 7, and 0 else. Bits are those of an accepted cost, and
@@ -52,15 +48,21 @@ fn told(refusal: u16, place: u16, found: u16) -> Answer
 }
 
 // A refused call. It requires a place that fits 16 bits. The door has checked that: a place is one of 2
-// orders or of 16 indices (`Small` has it for each door).
+// orders or of 16 indices (`Small` has it for each door). It is a clause, and no limit in `Refusal`, which may name
+// any place.
 pub fn refused(why: Refusal) -> Answer
     requires { place_of (says why) ≤ 15 }
     ensures { result ≡ answer_for no_bits (refused (says why)) }
 {
-    told(why.number() as u16, why.place() as u16, why.found() as u16)
+    told(
+        u16::from(why.number()),
+        why.place() as u16,
+        u16::from(why.found()),
+    )
 }
 
-// A refused call at a line. It requires what `refused` does, and its one caller requires it too.
+// A refused call at a line. It requires what `refused` does, and its one caller requires it too. The numbers of the two
+// refusals that only such calls have stand here alone.
 fn refused_at_line(why: LineRefusal) -> Answer
     requires { place_of (line_says why) ≤ 15 }
     ensures { result ≡ answer_for no_bits (refused (line_says why)) }
@@ -74,25 +76,25 @@ fn refused_at_line(why: LineRefusal) -> Answer
 
 // What `save` and `restart` answer. It requires a place that fits, as `refused` does: both have checked
 // it.
-pub fn told_at_line(answer: LineAnswer) -> Answer
-    requires { of_fault place_of (line_answer_says answer) ≤ 15 }
-    ensures { result ≡ answer_for no_bits (line_answer_says answer) }
+pub fn told_at_line(answer: Result<(), LineRefusal>) -> Answer
+    requires { of_fault place_of (verdict_by line_says answer) ≤ 15 }
+    ensures { result ≡ answer_for no_bits (verdict_by line_says answer) }
 {
     match answer {
-        LineAnswer::Decoded => accepted(0),
-        LineAnswer::Refused(why) => refused_at_line(why),
+        Ok(()) => accepted(0),
+        Err(why) => refused_at_line(why),
     }
 }
 
 // The answer of `cost_2048ths` in numbers. It requires a place that fits, as `refused` does: the call has
 // checked it. `tns_cost` has the same two cases in its own body: through this function it was slower
 // (docs/DECISIONS.md, "Speed").
-pub fn told_cost(answer: CostAnswer) -> Answer
-    requires { of_fault place_of (cost_says answer) ≤ 15 }
-    ensures { result ≡ answer_for its_bits (cost_says answer) }
+pub fn told_cost(answer: Result<u16, Refusal>) -> Answer
+    requires { of_fault place_of (verdict_by says answer) ≤ 15 }
+    ensures { result ≡ answer_for its_bits (verdict_by says answer) }
 {
     match answer {
-        CostAnswer::Bits(bits) => accepted(bits),
-        CostAnswer::Refused(why) => refused(why),
+        Ok(bits) => accepted(bits),
+        Err(why) => refused(why),
     }
 }

@@ -1,15 +1,13 @@
 -- Any two results that a contract allows for one input coincide: the law of `law_results`, cited for each public function of this crate.
-use mathlib.Core.Path.{◌≡◌, refl, ap}
+use mathlib.Core.Path.{◌≡◌, refl}
 use mathlib.Core.Bool.{cond}
-use Prim.Native.Nat.{ℕ}
 use lib.Dec.{eqb}
-use Rattle.check_verdicts.specs.Verdicts.{Fault, number_of, Verdict, accepted, refused}
+use Rattle.check_verdicts.specs.Verdicts.{Fault, number_of, verdict_by}
+use Rattle.check_verdicts.proofs.Verdicts.{verdict_back, verdict_again}
 use Rattle.law_results.proofs.Determined.{Determined, coincide, itself}
-use Rattle.block_check.specs.Told.{block_fault, block_says}
+use Rattle.block_check.specs.Told.{block_fault}
 use Rattle.block_check.specs.declared.check.BlockRefusal.{BlockRefusal}
 use Rattle.block_check.specs.declared.check.BlockRefusal.TheVariants.{Length, Sums, Layout, Record}
-use Rattle.block_check.specs.declared.check.BlockAnswer.{BlockAnswer}
-use Rattle.block_check.specs.declared.check.BlockAnswer.TheVariants.{Records, Refused}
 use Rattle.block_check.proofs.check.BlockRefusal.number.Kinds as number-kinds
 use Rattle.block_check.proofs.check.BlockRefusal.number.Reads as number-reads
 use Rattle.block_check.proofs.check.check_block.Kinds as check-block-kinds
@@ -28,13 +26,5 @@ refusal_back_lem Sums = refl
 refusal_back_lem Layout = refl
 refusal_back_lem Record = refl
 
-abbrev pub answer_back : Verdict ℕ → BlockAnswer
-answer_back (accepted count) = Records count
-answer_back (refused fault) = Refused (refusal_back fault)
-
-pub answer_back_lem : (answer : BlockAnswer) → answer_back (block_says answer) ≡ answer
-answer_back_lem (Records count) = refl
-answer_back_lem (Refused why) = ap Refused (refusal_back_lem why)
-
 check_block : Determined 1 check-block-kinds.ps check-block-kinds.r check-block-reads.Post
-check_block κs a x y s t p q = coincide block_says answer_back answer_back_lem p q
+check_block κs a x y s t p q = coincide (verdict_by block_fault) (verdict_back refusal_back) (verdict_again block_fault refusal_back refusal_back_lem) p q

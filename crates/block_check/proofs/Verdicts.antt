@@ -139,7 +139,7 @@ module _ (number : ℕ) (bytes : List ℕ) where
     pub few : count ≤ 20
     pub verdict : read_verdict number bytes ≡ accepted (part 8 (8 + 24 * count) bytes)
 
-  given_block : (count : ℕ) (records : List ℕ) → read_verdict number bytes ≡ accepted records → 0 < length bytes → count ≡ count_of records → Given count × (1 ≤ count)
+  pub given_block : (count : ℕ) (records : List ℕ) → read_verdict number bytes ≡ accepted records → 0 < length bytes → count ≡ count_of records → Given count × (1 ≤ count)
   given_block count records e some n =
       let block : List ℕ = take 512 bytes in
       let a = accepted_block number block records (sym (some_bytes number bytes some) ∙ e) in

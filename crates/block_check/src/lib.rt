@@ -4,4 +4,4 @@
 
 mod check;
 
-pub use check::{BlockAnswer, BlockRefusal, check_block};
+pub use check::{BlockRefusal, check_block};

@@ -54,10 +54,10 @@ pub own_first : (bytes : List ℕ) → number_in (take 512 bytes) ≡ number_in 
 own_first bytes = omega (arith, get_or-take 512 bytes 0 0 (omega arith), get_or-take 512 bytes 1 0 (omega arith))
 
 -- the reader of the first of some bytes
-pub own_read : (bytes : List ℕ) (own : ℕ) → 512 ≤ length bytes → own ≤ 65535 → own ≡ number_in bytes → read_verdict own bytes ≡ kept_verdict (take 512 bytes)
-own_read bytes own long few e =
+pub own_read : (bytes : List ℕ) (own : ℕ) → 0 < length bytes → own ≤ 65535 → own ≡ number_in bytes → read_verdict own bytes ≡ kept_verdict (take 512 bytes)
+own_read bytes own some few e =
     let its : own ≡ number_in (take 512 bytes) = e ∙ sym (own_first bytes) in
-    some_bytes own bytes (omega arith) ∙ ap (λ (n : ℕ). block_verdict n (take 512 bytes)) its ∙ own_number (take 512 bytes) (omega arith)
+    some_bytes own bytes some ∙ ap (λ (n : ℕ). block_verdict n (take 512 bytes)) its ∙ own_number (take 512 bytes) (omega arith)
 
 -- ---- what comes after the tests
 

@@ -1,10 +1,7 @@
--- docs/RULES.md, "Rescue (C-16)", one block: when it is kept, and what an answer says of it. The parts of a block are those of `Parts`, by their names.
+-- docs/RULES.md, "Rescue (C-16)", one block: when it is kept. The parts of a block are those of `Parts`, by their names.
 use Rattle.std.specs.Prelude.{◌&&◌, not, List, ℕ, ltb, length}
-use Rattle.check_verdicts.specs.Verdicts.{Verdict, accepted, refused, check}
+use Rattle.check_verdicts.specs.Verdicts.{Verdict, accepted, check}
 use Rattle.block_parts.specs.Parts.{records_in, sums_right, header_right, fill_right, sound_records}
-use Rattle.block_check.specs.Told.{block_fault}
-use Rattle.block_kept.specs.declared.RescueAnswer.{RescueAnswer}
-use Rattle.block_kept.specs.declared.RescueAnswer.TheVariants.{Kept, Refused}
 
 -- a block is kept exactly if its sums, its header apart from the number, its fill and its records are right; the first fault stands, in the numbers and the order of a read.
 -- 9: fewer bytes than a block. 10: sums. 11: header, its number apart, or fill. 12: a record that is not sound
@@ -19,8 +16,3 @@ kept_checks block next =
 -- the records of a block that is kept, or its first fault
 abbrev pub kept_verdict : List ℕ → Verdict (List ℕ)
 kept_verdict block = kept_checks block (accepted (records_in block))
-
--- what an answer says: the number that stood in a block that is kept, or why none is
-abbrev pub rescue_says : RescueAnswer → Verdict ℕ
-rescue_says (Kept own) = accepted own
-rescue_says (Refused why) = refused (block_fault why)

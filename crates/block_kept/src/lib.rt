@@ -3,33 +3,23 @@
 #![tactic(auto)]
 
 ghost use Rattle.std.specs.Prelude.{◌≡◌, take};
-ghost use Rattle.check_verdicts.specs.Verdicts.{on_accepted};
+ghost use Rattle.check_verdicts.specs.Verdicts.{on_accepted, verdict_by};
 ghost use Rattle.block_parts.specs.Parts.{number_in};
-ghost use Rattle.block_kept.specs.Kept.{kept_verdict, rescue_says};
+ghost use Rattle.block_check.specs.Told.{block_fault};
+ghost use Rattle.block_kept.specs.Kept.{kept_verdict};
 
-use block_check::{BlockAnswer, BlockRefusal, check_block};
+use block_check::{BlockRefusal, check_block};
 use block_numbers::word_of;
-
-// The answer of a call that rescues a block: the number that stands in a block that is kept, or why none
-// is.
-#[derive(Clone, Copy)]
-pub enum RescueAnswer {
-    Kept(u16),
-    Refused(BlockRefusal),
-}
 
 // Whether the first 512 of some bytes are a block to keep: the number that stands in it, or its first
 // fault. A block is read as the one that it says it is, so that its number is right whatever it is.
-pub fn check_kept(bytes: &[u8]) -> RescueAnswer
-    ensures { rescue_says result ≡ on_accepted (λ _. number_in bytes.now) (kept_verdict (take 512 bytes.now)) }
+pub fn check_kept(bytes: &[u8]) -> Result<u16, BlockRefusal>
+    ensures { verdict_by block_fault result ≡ on_accepted (λ _. number_in bytes.now) (kept_verdict (take 512 bytes.now)) }
 {
-    if bytes.len() < 512 {
-        return RescueAnswer::Refused(BlockRefusal::Length);
-    }
-    let own = word_of(bytes[0], bytes[1]);
-    let answer = check_block(own as u64, bytes);
-    match answer {
-        BlockAnswer::Refused(why) => RescueAnswer::Refused(why),
-        BlockAnswer::Records(_) => RescueAnswer::Kept(own),
-    }
+    let [low, high, ..] = bytes else {
+        return Err(BlockRefusal::Length);
+    };
+    let own = word_of(*low, *high);
+    check_block(u64::from(own), bytes)?;
+    Ok(own)
 }

@@ -6,17 +6,15 @@ ghost use Rattle.std.specs.Prelude.{◌≡◌, take};
 ghost use Rattle.block_numbers.specs.Words.{word_of};
 ghost use Rattle.block_numbers.specs.Sums.{sums_of};
 
-use law_numbers::least;
-
 // The number of two bytes, the low one first.
 pub fn word_of(low: u8, high: u8) -> u16
     ensures { result ≡ word_of low high }
 {
-    low as u16 + 256 * (high as u16)
+    u16::from_le_bytes([low, high])
 }
 
 // The two sums, each modulo 65521.
-#[derive(Clone, Copy)]
+#[derive(Clone, Copy, Debug, PartialEq, Eq)]
 pub struct Sums {
     pub plain: u16,
     pub weighted: u16,
@@ -27,15 +25,13 @@ pub struct Sums {
 pub fn sums_of(bytes: &[u8]) -> Sums
     ensures { result ≡ sums_of (take 508 bytes.now) }
 {
-    let count = least(508, bytes.len());
+    let summed = &bytes[..bytes.len().min(508)];
     let mut plain = 0u32;
     let mut weighted = 0u32;
-    let mut weight = 508u32;
-    for i in 0..count {
-        let byte = bytes[i] as u32;
+    for (place, byte) in summed.iter().enumerate() {
+        let byte = u32::from(*byte);
         plain += byte;
-        weighted += weight * byte;
-        weight -= 1;
+        weighted += (508 - place as u32) * byte;
     }
     Sums {
         plain: (plain % 65521) as u16,

@@ -1,10 +1,10 @@
 -- docs/RULES.md, "Block files (C-11)", a block of 512 bytes: number, header apart from the number, records, fill and sums, each as it is written and as it is read, and
 -- what is right of each.
-use Rattle.std.specs.Prelude.{Bool, ◌&&◌, List, [], ◌∷◌, ◌++◌, ℕ, ◌+◌, ◌-◌, ◌*◌, ◌/◌, eqb, leb, length, get_or, take, replicate}
+use Rattle.std.specs.Prelude.{Bool, ◌&&◌, is_none, List, [], ◌∷◌, ◌++◌, ℕ, ◌+◌, ◌-◌, ◌*◌, ◌/◌, eqb, leb, length, get_or, take, replicate}
 use Rattle.law_lists.specs.Every.{every}
 use Rattle.law_lists.specs.Places.{part}
 use Rattle.law_lists.specs.Portions.{portions}
-use Rattle.check_limits.specs.LowestOver.{lowest_over, is_nowhere}
+use Rattle.check_limits.specs.LowestOver.{lowest_over}
 use Rattle.block_numbers.specs.Words.{word_at, word_bytes}
 use Rattle.block_numbers.specs.Sums.{sums_of}
 use Rattle.block_record.specs.RecordBytes.{sound_record}
@@ -55,7 +55,7 @@ fill_in block = part (records_end block) 508 block
 
 -- no byte is over 0, in the words of refusals 6 and 7
 abbrev pub zeros : List ℕ → Bool
-zeros bytes = is_nowhere (lowest_over 0 0 bytes)
+zeros bytes = is_none (lowest_over 0 0 bytes)
 
 unfoldable pub sums_right : List ℕ → Bool
 sums_right block = eqb (word_at 508 block) (sums_of (take 508 block)).plain && eqb (word_at 510 block) (sums_of (take 508 block)).weighted

@@ -6,8 +6,8 @@ ghost use Rattle.std.specs.Prelude.{◌≡◌};
 ghost use Rattle.block_record.specs.RecordBytes.{sound_record};
 
 use block_numbers::word_of;
-use check_side::{SideAnswer, check_codes};
-use cost_call::{CostAnswer, cost};
+use check_side::check_codes;
+use cost_call::cost;
 
 // Whether some bytes are a sound record. Fewer than 24, or more, are not one.
 pub fn is_sound(bytes: &[u8]) -> bool
@@ -16,13 +16,7 @@ pub fn is_sound(bytes: &[u8]) -> bool
     if bytes.len() != 24 {
         return false;
     }
-    let codes = check_codes(bytes[0], bytes[1]);
-    if let SideAnswer::Refused(_) = codes {
-        return false;
-    }
-    let answer = cost(bytes[3], bytes[2], &bytes[4..6], &bytes[6..22]);
-    match answer {
-        CostAnswer::Refused(_) => false,
-        CostAnswer::Bits(bits) => bits == word_of(bytes[22], bytes[23]),
-    }
+    let bits = word_of(bytes[22], bytes[23]);
+    check_codes(bytes[0], bytes[1]).is_ok()
+        && cost(bytes[3], bytes[2], &bytes[4..6], &bytes[6..22]).is_ok_and(|cost| cost == bits)
 }

@@ -1,11 +1,12 @@
 -- docs/RULES.md, "Rescue (C-16)", one block: what it becomes if it is kept, and what a call on it promises. The parts of a block are those of `Parts`, by their names.
-use Rattle.std.specs.Prelude.{◌≡◌, List, ◌++◌, ℕ, ltb}
+use Rattle.std.specs.Prelude.{◌≡◌, List, ◌++◌, ℕ, ltb, Result}
 use Rattle.law_lists.specs.Places.{part}
-use Rattle.check_verdicts.specs.Verdicts.{Verdict, accepted, check, unless_refused, on_accepted}
+use Rattle.check_verdicts.specs.Verdicts.{Verdict, verdict_by, accepted, check, unless_refused, on_accepted}
 use Rattle.block_numbers.specs.Words.{word_bytes}
 use Rattle.block_parts.specs.Parts.{number_in, sum_bytes}
-use Rattle.block_kept.specs.Kept.{kept_checks, rescue_says}
-use Rattle.block_kept.specs.declared.RescueAnswer.{RescueAnswer}
+use Rattle.block_check.specs.Told.{block_fault}
+use Rattle.block_check.specs.declared.check.BlockRefusal.{BlockRefusal}
+use Rattle.block_kept.specs.Kept.{kept_checks}
 
 -- "renumbered": another number before its header, its records and its fill, which stay byte for byte
 abbrev pub body_renumbered : ℕ → List ℕ → List ℕ
@@ -20,6 +21,6 @@ unfoldable pub rescue_verdict : ℕ → List ℕ → Verdict (List ℕ)
 rescue_verdict number block = kept_checks block (check 9 (ltb 65535 number) (accepted (renumbered number block)))
 
 -- A call that rescues a block: its answer, and what its buffer holds, which is the block as it becomes. A refused call leaves it as it was found.
-pub record RescueDone (number : ℕ) (block found left : List ℕ) (result : RescueAnswer) : Type 0 where
-  pub answer : rescue_says result ≡ on_accepted (λ _. number_in block) (rescue_verdict number block)
+pub record RescueDone (number : ℕ) (block found left : List ℕ) (result : Result ℕ BlockRefusal) : Type 0 where
+  pub answer : verdict_by block_fault result ≡ on_accepted (λ _. number_in block) (rescue_verdict number block)
   pub bytes : left ≡ unless_refused (rescue_verdict number block) (λ becomes. becomes) found

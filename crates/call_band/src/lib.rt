@@ -3,10 +3,10 @@
 #![tactic(auto)]
 
 ghost use Rattle.std.specs.Prelude.{◌≡◌, length};
-ghost use Rattle.row_bands.specs.Bands.{no_band, band_of};
+ghost use Rattle.row_bands.specs.Bands.{band_of};
 ghost use Rattle.call_band.specs.AskedBand.{asked_band, PartOf};
 
-use check_frame::{FrameAnswer, check_frame};
+use check_frame::check_frame;
 use row_bands::{Band, Row};
 
 // The band of a filter in a row, and none of a third filter.
@@ -19,18 +19,7 @@ fn band_of(row: Row, filter: u8) -> Band
     if filter == 1 {
         return row.second;
     }
-    none()
-}
-
-fn none() -> Band
-    ensures { result ≡ no_band }
-{
-    Band {
-        start: 0,
-        first_cut: 0,
-        second_cut: 0,
-        stop: 0,
-    }
+    Band::default()
 }
 
 // Where a caller's band lies in a spectrum of so many lines: nowhere if the row has no such band, or
@@ -38,11 +27,7 @@ fn none() -> Band
 pub fn asked_band(duration: u8, bandwidth: u8, filter: u8, lines: usize) -> Band
     ensures { result ≡ asked_band duration bandwidth filter lines }
 {
-    let frame = check_frame(duration, bandwidth, lines);
-    match frame {
-        FrameAnswer::Sound(row) => band_of(row, filter),
-        FrameAnswer::Refused(_) => none(),
-    }
+    check_frame(duration, bandwidth, lines).map_or(Band::default(), |row| band_of(row, filter))
 }
 
 // The band itself, as a part of the caller's own spectrum; it may be empty. What it holds and where it
@@ -52,7 +37,5 @@ pub fn band_lines(duration: u8, bandwidth: u8, filter: u8, lines: &mut [f32]) ->
     ensures { PartOf (asked_band duration bandwidth filter (length lines.old)) lines.entry.ref_ptr lines.old result.ref_ptr result.now }
 {
     let asked = asked_band(duration, bandwidth, filter, lines.len());
-    let start = asked.start;
-    let stop = asked.stop;
-    &mut lines[start..stop]
+    &mut lines[asked.start..asked.stop]
 }

@@ -4,6 +4,7 @@ use mathlib.Core.List.{List}
 use Prim.Native.Nat.{ℕ}
 use lib.Ieee.{Float}
 use lib.ListN.{length}
+use Rattle.std.specs.Prelude.{Result, Ok, Err}
 use Rattle.check_verdicts.specs.Verdicts.{Verdict, refused, no_fault}
 use Rattle.check_refusals.specs.Refusals.{says}
 use Rattle.check_refusals.specs.declared.Refusal.{Refusal}
@@ -14,15 +15,13 @@ use Rattle.check_coded.specs.CodedFrames.{CodedFrame, checks_of}
 use Rattle.check_coded.proofs.CodedFrames.{PassedFrame, left_alone, written}
 use Rattle.side_decoded.specs.DecoderFilters.{row_decoded}
 use Rattle.call_decode.specs.Decoder.{decode_checks, spectrum_decoded, Decodes}
-use Rattle.call_decode.specs.declared.DecodeAnswer.{DecodeAnswer}
-use Rattle.call_decode.specs.declared.DecodeAnswer.TheVariants.{Decoded, Refused}
 
 -- a refused call
 module _ (f : CodedFrame) where
-  abbrev pub DecodesFrame : List Float → DecodeAnswer → Type 0
+  abbrev pub DecodesFrame : List Float → Result (Unit {0}) Refusal → Type 0
   DecodesFrame left answer = Decodes f.duration f.bandwidth f.filters f.orders f.indices f.spectrum left answer
 
-  pub refused_decode : {why : Refusal} → ((next : Verdict (Unit {0})) → refused (says why) ≡ checks_of f next) → DecodesFrame f.spectrum (Refused why)
+  pub refused_decode : {why : Refusal} → ((next : Verdict (Unit {0})) → refused (says why) ≡ checks_of f next) → DecodesFrame f.spectrum (Err why)
   unfolding decode_checks spectrum_decoded
   refused_decode {why} e = record { answer = e no_fault; lines = left_alone (e no_fault) _ f.spectrum }
 
@@ -41,6 +40,6 @@ module _ (f : CodedFrame) {row : Row} (p : PassedFrame f row) where
       ap (λ (r : Row). row_decoded r f.filters f.orders f.indices f.spectrum) p.its_row
       ∙ accepted_spectrum f.duration f.bandwidth f.filters f.orders f.indices f.spectrum (sym (p.goes_on no_fault))
 
-  pub decoded : (left : List Float) → left ≡ row_decoded row f.filters f.orders f.indices f.spectrum → DecodesFrame f left Decoded
+  pub decoded : (left : List Float) → left ≡ row_decoded row f.filters f.orders f.indices f.spectrum → DecodesFrame f left (Ok tt)
   unfolding decode_checks
   decoded left e = record { answer = sym (p.goes_on no_fault); lines = e ∙ row_as_spectrum }

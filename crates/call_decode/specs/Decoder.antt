@@ -1,13 +1,12 @@
 -- The decode call: its answer, and the spectrum after it.
-use Rattle.std.specs.Prelude.{◌≡◌, List, ℕ, length, Float}
-use Rattle.check_verdicts.specs.Verdicts.{Verdict, refused, unless_refused, no_fault}
+use Rattle.std.specs.Prelude.{◌≡◌, List, ℕ, length, Float, Result}
+use Rattle.check_verdicts.specs.Verdicts.{Verdict, unless_refused, no_fault, verdict_by}
 use Rattle.check_refusals.specs.Refusals.{says}
+use Rattle.check_refusals.specs.declared.Refusal.{Refusal}
 use Rattle.row_durations.specs.Durations.{duration_of}
 use Rattle.row_bands.specs.Bands.{row_of}
 use Rattle.check_coded.specs.CodedFrames.{call_checks}
 use Rattle.side_decoded.specs.DecoderFilters.{row_decoded}
-use Rattle.call_decode.specs.declared.DecodeAnswer.{DecodeAnswer}
-use Rattle.call_decode.specs.declared.DecodeAnswer.TheVariants.{Decoded, Refused}
 
 -- refusals 1 to 7, in number order
 unfoldable pub decode_checks : ℕ → ℕ → ℕ → List ℕ → List ℕ → ℕ → Verdict (Unit {0})
@@ -20,12 +19,7 @@ spectrum_decoded duration bandwidth filters orders indices lines =
     (λ u. row_decoded (row_of (duration_of duration) bandwidth) filters orders indices lines)
     lines
 
--- what an answer of the decode call says
-abbrev pub decode_says : DecodeAnswer → Verdict (Unit {0})
-decode_says Decoded = no_fault
-decode_says (Refused why) = refused (says why)
-
 -- What the call promises: what it answers, and the lines that it leaves of those that it finds.
-pub record Decodes (duration bandwidth filters : ℕ) (orders indices : List ℕ) (found left : List Float) (result : DecodeAnswer) : Type 0 where
-  pub answer : decode_says result ≡ decode_checks duration bandwidth filters orders indices (length found)
+pub record Decodes (duration bandwidth filters : ℕ) (orders indices : List ℕ) (found left : List Float) (result : Result (Unit {0}) Refusal) : Type 0 where
+  pub answer : verdict_by says result ≡ decode_checks duration bandwidth filters orders indices (length found)
   pub lines : left ≡ spectrum_decoded duration bandwidth filters orders indices found

@@ -7,7 +7,8 @@ use Prim.Native.Nat.{ℕ, ◌≤◌}
 use native.Mathlib.Omega.{arith}
 use lib.Ieee.{Float}
 use lib.ListN.{length}
-use Rattle.check_verdicts.specs.Verdicts.{Fault, Verdict, accepted, refused, bits_in, its_bits}
+use Rattle.check_verdicts.specs.Verdicts.{Fault, Verdict, accepted, refused, bits_in, its_bits, verdict_by}
+use Rattle.check_refusals.specs.Refusals.{says}
 use Rattle.row_durations.specs.Durations.{duration_of}
 use Rattle.row_bands.specs.Bands.{row_of}
 use Rattle.row_bands.specs.declared.Row.{Row}
@@ -20,7 +21,7 @@ use Rattle.side_near.specs.NearExact.{NearExact}
 use Rattle.shape_gain.specs.Gains.{no_gains}
 use Rattle.shape_gain.specs.declared.Gains.{Gains}
 use Rattle.shape_frame.specs.FrameSide.{side_of, gains_of}
-use Rattle.call_encode.specs.Encoder.{weighting_in, encode_verdict, encode_says, Encodes}
+use Rattle.call_encode.specs.Encoder.{weighting_in, encode_verdict, Encodes}
 use Rattle.call_encode.specs.declared.Encoded.{Encoded}
 
 module _ (duration bandwidth nbits : ℕ) (flag : Bool) (lines : List Float) where
@@ -42,7 +43,7 @@ few : (said verdict : Verdict ℕ) → said ≡ verdict → bits_in its_bits ver
 few said verdict e h = subst (λ (v : Verdict ℕ). bits_in its_bits v ≤ 168) (sym e) h
 
 -- a refused frame: the refusal, no side data, no gains, the lines that came in
-pub encodes_refused : (why : Fault) (analysed : Gains) (row : Row) (lines : List Float) (result : Encoded) → encode_says result.answer ≡ refused why
+pub encodes_refused : (why : Fault) (analysed : Gains) (row : Row) (lines : List Float) (result : Encoded) → verdict_by says result.answer ≡ refused why
     → result.side ≡ no_side → result.gains ≡ no_gains → Encodes (refused why) analysed row lines lines result
 encodes_refused why analysed row lines result said no-side no-gains =
     record { answer = said; side = no-side; gains = no-gains; lines = refl; near = tt; few_bits = few _ (refused why) said (omega arith) }
@@ -50,7 +51,7 @@ encodes_refused why analysed row lines result said no-side no-gains =
 -- an accepted frame, whose row and weighting are the call's: the bits, the side data and the gains of its filters, its bands filtered, near the exact
 -- lines
 pub encodes_accepted : (row own : Row) (flag : Bool) (w weighting : ℕ) (found left : List Float) (result : Encoded) → row ≡ own → w ≡ weighting
-    → encode_says result.answer ≡ accepted (bits_of (side_of row found flag w)) → result.side ≡ side_of row found flag w
+    → verdict_by says result.answer ≡ accepted (bits_of (side_of row found flag w)) → result.side ≡ side_of row found flag w
     → result.gains ≡ gains_of row found flag w → left ≡ filtered_by (side_of row found flag w) row found
     → NearExact own (side_of own found flag weighting) found (filtered_by (side_of own found flag weighting) own found) → bits_of (side_of own found flag weighting) ≤ 168
     → Encodes (accepted (side_of own found flag weighting)) (gains_of own found flag weighting) own found left result

@@ -3,7 +3,8 @@ use mathlib.Core.Path.{◌≡◌, sym, ◌∙◌, ap}
 use mathlib.Core.List.{List}
 use Prim.Native.Nat.{ℕ}
 use lib.Ieee.{Float}
-use Rattle.check_verdicts.specs.Verdicts.{Verdict, accepted, refused}
+use Rattle.check_verdicts.specs.Verdicts.{Verdict, accepted, refused, verdict_by}
+use Rattle.check_refusals.specs.Refusals.{says}
 use Rattle.check_verdicts.proofs.Verdicts.{not_accepted}
 use Rattle.row_bands.specs.declared.Row.{Row}
 use Rattle.cost_call.specs.Cost.{each_rounded}
@@ -11,7 +12,7 @@ use Rattle.side_data.specs.Side.{bits_of}
 use Rattle.side_data.specs.declared.SideData.{SideData}
 use Rattle.side_data.proofs.Rounded.{costs_in, side_rounded}
 use Rattle.shape_gain.specs.declared.Gains.{Gains}
-use Rattle.call_encode.specs.Encoder.{bits_verdict, side_in, encode_says, Encodes}
+use Rattle.call_encode.specs.Encoder.{bits_verdict, side_in, Encodes}
 use Rattle.call_encode.specs.declared.Encoded.{Encoded}
 
 reported : (verdict : Verdict SideData) (bits : ℕ) → accepted bits ≡ bits_verdict verdict → bits ≡ each_rounded (costs_in (side_in verdict))
@@ -19,6 +20,6 @@ reported (accepted side) bits e = let same : bits ≡ bits_of side = cc in same 
 reported (refused fault) bits e = not_accepted (sym e)
 
 pub encode_rounded : (verdict : Verdict SideData) (analysed : Gains) (row : Row) (found left : List Float) (result : Encoded)
-    → Encodes verdict analysed row found left result → (bits : ℕ) → accepted bits ≡ encode_says result.answer → bits ≡ each_rounded (costs_in result.side)
+    → Encodes verdict analysed row found left result → (bits : ℕ) → accepted bits ≡ verdict_by says result.answer → bits ≡ each_rounded (costs_in result.side)
 encode_rounded verdict analysed row found left result promise bits e =
     reported verdict bits (e ∙ promise.answer) ∙ ap (λ (side : SideData). each_rounded (costs_in side)) (sym promise.side)

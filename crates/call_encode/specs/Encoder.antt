@@ -1,7 +1,7 @@
 -- The encode call, in the order in which a frame goes through it: its checks, its weighting, its side data and gains, the lines through the filters of
 -- the side data, and the answer.
-use Rattle.std.specs.Prelude.{◌≡◌, Bool, List, ℕ, ◌≤◌, length, Float}
-use Rattle.check_verdicts.specs.Verdicts.{Verdict, accepted, refused, unless_refused, on_accepted, IfAccepted, bits_in, its_bits}
+use Rattle.std.specs.Prelude.{◌≡◌, Bool, List, ℕ, ◌≤◌, length, Float, Err}
+use Rattle.check_verdicts.specs.Verdicts.{Verdict, accepted, unless_refused, verdict_by, on_accepted, IfAccepted, bits_in, its_bits}
 use Rattle.check_refusals.specs.Refusals.{says}
 use Rattle.check_refusals.specs.declared.Refusal.{Refusal}
 use Rattle.row_durations.specs.Durations.{numbers_of, duration_of, weighting_of}
@@ -16,8 +16,6 @@ use Rattle.shape_gain.specs.Gains.{no_gains}
 use Rattle.shape_gain.specs.declared.Gains.{Gains}
 use Rattle.shape_frame.specs.FrameSide.{side_of, gains_of}
 use Rattle.call_encode.specs.declared.Encoded.{Encoded}
-use Rattle.call_encode.specs.declared.EncodeAnswer.{EncodeAnswer}
-use Rattle.call_encode.specs.declared.EncodeAnswer.TheVariants.{Bits, Refused}
 
 -- the weighting of a call
 abbrev pub weighting_in : ℕ → ℕ → ℕ
@@ -52,29 +50,25 @@ spectrum_encoded duration bandwidth nbits flag lines = lines_after (encode_verdi
 abbrev pub bits_verdict : Verdict SideData → Verdict ℕ
 bits_verdict verdict = on_accepted bits_of verdict
 
-abbrev pub encode_says : EncodeAnswer → Verdict ℕ
-encode_says (Bits bits) = accepted bits
-encode_says (Refused why) = refused (says why)
-
 -- What the call promises, by the verdict on its frame and the gains that its analysis gives: the answer, the side data and the gains beside it, the
 -- lines that it leaves of those that it finds in the bands of the row, demand 3 of an accepted call, and that no answer has more than 168 bits.
 pub record Encodes (verdict : Verdict SideData) (analysed : Gains) (row : Row) (found left : List Float) (result : Encoded) : Type 0 where
-  pub answer : encode_says result.answer ≡ bits_verdict verdict
+  pub answer : verdict_by says result.answer ≡ bits_verdict verdict
   pub side : result.side ≡ side_in verdict
   pub gains : result.gains ≡ gains_in verdict analysed
   pub lines : left ≡ lines_after verdict row found
   pub near : IfAccepted verdict (NearExact row (side_in verdict) found left)
-  pub few_bits : bits_in its_bits (encode_says result.answer) ≤ 168
+  pub few_bits : bits_in its_bits (verdict_by says result.answer) ≤ 168
 
 -- ---- what inner contracts cite; no public promise rests on these names
 
 -- what a refused call gives
 abbrev pub refused_with : Refusal → Encoded
-refused_with why = record { answer = Refused why; side = no_side; gains = no_gains }
+refused_with why = record { answer = Err why; side = no_side; gains = no_gains }
 
 -- what becomes of a sound frame of some side data and gains
 pub record RowEncodes (its : SideData) (analysed : Gains) (row : Row) (found left : List Float) (result : Encoded) : Type 0 where
-  pub answer : encode_says result.answer ≡ accepted (bits_of its)
+  pub answer : verdict_by says result.answer ≡ accepted (bits_of its)
   pub side : result.side ≡ its
   pub gains : result.gains ≡ analysed
   pub lines : left ≡ filtered_by its row found

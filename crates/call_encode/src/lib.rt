@@ -13,7 +13,7 @@ ghost use Rattle.shape_lags.specs.LongBands.{LongRow};
 ghost use Rattle.shape_frame.specs.FrameSide.{side_of, gains_of};
 ghost use Rattle.call_encode.specs.Encoder.{encode_verdict, gains_found, Encodes, refused_with, RowEncodes};
 
-use check_frame::{FrameAnswer, check_frame};
+use check_frame::check_frame;
 use check_refusals::Refusal;
 use row_bands::Row;
 use row_durations::{duration_of, lpc_weighting};
@@ -23,17 +23,12 @@ use side_data::SideData;
 use side_encoded::two_encoded;
 use side_quantized::Quantized;
 
-// The answer of `encode`: the bits of the side data, or why there are none.
-#[derive(Clone, Copy)]
-pub enum EncodeAnswer {
-    Bits(u16),
-    Refused(Refusal),
-}
-
-// The answer, with the side data and the gains beside it.
+// The answer of `encode`, the bits of the side data or why there are none, with the side data and the gains
+// beside it. These stand beside it, and not in its `Ok`, since `Encodes` promises what they are of a refused
+// call too.
 #[derive(Clone, Copy)]
 pub struct Encoded {
-    pub answer: EncodeAnswer,
+    pub answer: Result<u16, Refusal>,
     pub side: SideData,
     pub gains: Gains,
 }
@@ -43,16 +38,17 @@ pub struct Encoded {
 pub fn encode(duration: u8, bandwidth: u8, nbits: u64, flag: bool, lines: &mut [f32]) -> Encoded
     ensures { Encodes (encode_verdict duration bandwidth nbits flag lines.old) (gains_found duration bandwidth nbits flag lines.old) (row_of (duration_of duration) bandwidth) lines.old lines.new result }
 {
-    let frame = check_frame(duration, bandwidth, lines.len());
-    match frame {
-        FrameAnswer::Refused(why) => refused(why),
-        FrameAnswer::Sound(row) => {
+    match check_frame(duration, bandwidth, lines.len()) {
+        Err(why) => refused(why),
+        Ok(row) => {
             let weighting = lpc_weighting(duration_of(duration), nbits);
             row_encoded(row, flag, weighting, lines)
         }
     }
 }
 
+// Zeros in all places, as a refused call reports them. They are no `Default` of their types: a band that a row does not
+// have gets index 8 and damping 1 (`none`, `absent_gain`), which a default would be taken for.
 fn no_filter() -> Quantized
     ensures { result ≡ no_filter }
 {
@@ -94,13 +90,14 @@ fn refused(why: Refusal) -> Encoded
     };
     let gains = no_gains();
     Encoded {
-        answer: EncodeAnswer::Refused(why),
+        answer: Err(why),
         side,
         gains,
     }
 }
 
-// A sound frame: the bits, the side data and the gains of its filters, and its bands filtered.
+// A sound frame: the bits, the side data and the gains of its filters, and its bands filtered. What is known of row and
+// lines are clauses, as in side_decoded and shape_frame.
 fn row_encoded(row: Row, flag: bool, weighting: u8, lines: &mut [f32]) -> Encoded
     requires sound_row { SoundRow row (length lines.old) }
     requires long_row { LongRow row (length lines.old) }
@@ -111,7 +108,7 @@ fn row_encoded(row: Row, flag: bool, weighting: u8, lines: &mut [f32]) -> Encode
     let gains = found.gains;
     two_encoded(row, side, lines);
     Encoded {
-        answer: EncodeAnswer::Bits(found.bits),
+        answer: Ok(found.bits),
         side,
         gains,
     }

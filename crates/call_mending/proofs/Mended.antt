@@ -10,13 +10,15 @@ use lib.ListN.{length, take, drop}
 use lib.Seq.{length-take-le, take_at, drop_at}
 use Rattle.law_lists.specs.Counted.{counted}
 use Rattle.law_lists.proofs.Counted.{none_of_them, one_of_them, two_of_them}
-use Rattle.check_verdicts.specs.Verdicts.{no_fault}
+use Rattle.std.specs.Prelude.{Result}
+use Rattle.check_verdicts.specs.Verdicts.{no_fault, verdict_by}
 use Rattle.row_durations.specs.Durations.{duration_of}
 use Rattle.row_bands.specs.Bands.{row_of, band_of}
 use Rattle.row_bands.specs.declared.Row.{Row}
 use Rattle.row_bands.proofs.Bands.{SoundRow}
 use Rattle.check_coded.specs.CodedFrames.{CodedFrame, row_in}
-use Rattle.check_line.specs.LineChecks.{checks_at_line}
+use Rattle.check_line.specs.LineChecks.{checks_at_line, line_says}
+use Rattle.check_line.specs.declared.LineRefusal.{LineRefusal}
 use Rattle.check_coded.proofs.CodedFrames.{written}
 use Rattle.check_line.proofs.LineChecks.{PassedLine, passed_at_line}
 use Rattle.lattice_lines.specs.Lattice.{at_rest}
@@ -27,8 +29,7 @@ use Rattle.lattice_rows.proofs.EitherSide.{none_states, one_states, two_states, 
 use Rattle.side_decoded.specs.DecoderFilters.{decoder_filter, row_decoded}
 use Rattle.side_split.specs.SplitRun.{states_before, lines_from}
 use Rattle.call_decode.proofs.DecodedFrames.{row_as_spectrum}
-use Rattle.call_restart.specs.Restart.{line_answer_says, Lent}
-use Rattle.call_restart.specs.declared.LineAnswer.{LineAnswer}
+use Rattle.call_restart.specs.Restart.{Lent}
 use Rattle.call_restart.proofs.SplitFrames.{SavesFrame, RestartsFrame}
 use Rattle.call_mending.specs.Mended.{AgreeBelow, order_at, indices_at, decoded, Mended}
 
@@ -37,7 +38,7 @@ abbrev states_in : CodedFrame → ℕ → List Float
 states_in f n = states_before n (row_in f) f.filters f.orders f.indices f.spectrum
 
 -- what an accepted save leaves is what the decode call leaves of the spectrum, and the states before the line
-pub saved_is_decoded : (f : CodedFrame) (n : ℕ) (found left : Lent) (answer : LineAnswer) → SavesFrame f n found left answer → line_answer_says answer ≡ no_fault
+pub saved_is_decoded : (f : CodedFrame) (n : ℕ) (found left : Lent) (answer : Result (Unit {0}) LineRefusal) → SavesFrame f n found left answer → verdict_by line_says answer ≡ no_fault
     → (left.output ≡ decoded f) × (left.states ≡ states_before n (row_of (duration_of f.duration) f.bandwidth) f.filters f.orders f.indices f.spectrum)
 saved_is_decoded f n found left answer p e =
     let passes = sym p.answer ∙ e in
@@ -95,8 +96,8 @@ module _ (n : ℕ) (old new : CodedFrame) (agree : AgreeBelow n old new) where
       ∙ ap (drop n) (row_as_spectrum new p.frame)
 
   -- the old frame's states are saved before line n, and the new frame is restarted there from them
-  pub mended : (Lent-found lent-left : Lent) (saved : LineAnswer) → SavesFrame old n Lent-found lent-left saved → line_answer_says saved ≡ no_fault
-      → (found left : List Float) (answer : LineAnswer) → RestartsFrame new n lent-left.states found left answer → line_answer_says answer ≡ no_fault
+  pub mended : (Lent-found lent-left : Lent) (saved : Result (Unit {0}) LineRefusal) → SavesFrame old n Lent-found lent-left saved → verdict_by line_says saved ≡ no_fault
+      → (found left : List Float) (answer : Result (Unit {0}) LineRefusal) → RestartsFrame new n lent-left.states found left answer → verdict_by line_says answer ≡ no_fault
       → Mended n new found left
   mended Lent-found lent-left saved s es found left answer r er =
       let no-fault : no_fault ≡ checks_at_line new n (length found) = sym er ∙ r.answer in

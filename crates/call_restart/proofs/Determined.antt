@@ -1,29 +1,22 @@
 -- Any two results that a contract allows for one input coincide: the law of `law_results`, cited for `save` and `restart`, and with it what is left
 -- in the lists that were lent. The logic has one NaN, so of a line or a state that is a NaN the bits are left open.
-use mathlib.Core.Path.{◌≡◌, refl, ap}
 use mathlib.Core.List.{List}
 use lib.Ieee.{Float}
-use Rattle.law_results.proofs.Determined.{DeterminedWith, coincide, itself, of_parts}
-use Rattle.check_line.proofs.Determined.{line_answer_back, line_refusal_back_lem}
-use Rattle.call_restart.specs.Restart.{line_answer_says, Lent, lent_at_line}
-use Rattle.call_restart.specs.declared.LineAnswer.{LineAnswer}
-use Rattle.call_restart.specs.declared.LineAnswer.TheVariants.{Decoded, Refused}
+use Rattle.law_results.proofs.Determined.{DeterminedWith, itself, of_parts}
+use Rattle.check_line.proofs.Determined.{by_line_verdict}
+use Rattle.call_restart.specs.Restart.{Lent, lent_at_line}
 use Rattle.call_restart.proofs.save.Kinds as save-kinds
 use Rattle.call_restart.proofs.save.Reads as save-reads
 use Rattle.call_restart.proofs.restart.Kinds as restart-kinds
 use Rattle.call_restart.proofs.restart.Reads as restart-reads
 
-line_back : (answer : LineAnswer) → line_answer_back (λ (u : Unit {0}). Decoded) Refused (line_answer_says answer) ≡ answer
-line_back Decoded = refl
-line_back (Refused why) = ap Refused (line_refusal_back_lem why)
-
 -- the answer, the output and the states
 save : DeterminedWith 5 save-kinds.ps save-kinds.r save-reads.Post Lent (λ κs s. lent_at_line s.1.1.1.1.1.1.0.now s.1.1.1.1.1.1.1.1.0.now)
 save κs a x y s t p q = (
-  coincide line_answer_says (line_answer_back (λ u. Decoded) Refused) line_back p.answer q.answer,
+  by_line_verdict p.answer q.answer,
   of_parts lent_at_line (itself p.output q.output) (itself p.states q.states),
 )
 
 restart : DeterminedWith 5 restart-kinds.ps restart-kinds.r restart-reads.Post (List Float) (λ κs s. s.1.1.1.1.1.1.0.now)
 restart κs a x y s t p q =
-    (coincide line_answer_says (line_answer_back (λ u. Decoded) Refused) line_back p.answer q.answer, itself p.output q.output)
+    (by_line_verdict p.answer q.answer, itself p.output q.output)

@@ -5,6 +5,7 @@ use mathlib.Core.List.{List, ◌++◌}
 use Prim.Native.Nat.{ℕ}
 use lib.Ieee.{Float}
 use lib.ListN.{length, take}
+use Rattle.std.specs.Prelude.{Result, Ok, Err}
 use Rattle.check_verdicts.specs.Verdicts.{refused}
 use Rattle.row_bands.specs.declared.Row.{Row}
 use Rattle.check_coded.specs.CodedFrames.{CodedFrame}
@@ -15,22 +16,20 @@ use Rattle.check_line.proofs.LineChecks.{PassedLine}
 use Rattle.side_split.specs.SplitRun.{states_before, lines_from, SavedRow}
 use Rattle.call_decode.proofs.DecodedFrames.{row_as_spectrum}
 use Rattle.call_restart.specs.Restart.{Lent, lent_at_line, Saves, Restarts}
-use Rattle.call_restart.specs.declared.LineAnswer.{LineAnswer}
-use Rattle.call_restart.specs.declared.LineAnswer.TheVariants.{Decoded, Refused}
 
 module _ (f : CodedFrame) (n : ℕ) where
-  abbrev pub SavesFrame : Lent → Lent → LineAnswer → Type 0
+  abbrev pub SavesFrame : Lent → Lent → Result (Unit {0}) LineRefusal → Type 0
   SavesFrame found left answer = Saves f.duration f.bandwidth f.filters f.orders f.indices f.spectrum n found left answer
 
-  abbrev pub RestartsFrame : List Float → List Float → List Float → LineAnswer → Type 0
+  abbrev pub RestartsFrame : List Float → List Float → List Float → Result (Unit {0}) LineRefusal → Type 0
   RestartsFrame states found left answer = Restarts f.duration f.bandwidth f.filters f.orders f.indices f.spectrum n states found left answer
 
   module _ (found : Lent) where
-    pub refused_save : {why : LineRefusal} → refused (line_says why) ≡ checks_at_line f n (length found.output) → SavesFrame found found (Refused why)
+    pub refused_save : {why : LineRefusal} → refused (line_says why) ≡ checks_at_line f n (length found.output) → SavesFrame found found (Err why)
     refused_save {why} e = record { answer = e; output = left_alone e _ found.output; states = left_alone e _ found.states }
 
     pub saved : {row : Row} → PassedLine f row n (length found.output) → {output states : List Float}
-        → SavedRow n row f.filters f.orders f.indices f.spectrum output states → SavesFrame found (lent_at_line output states) Decoded
+        → SavedRow n row f.filters f.orders f.indices f.spectrum output states → SavesFrame found (lent_at_line output states) (Ok tt)
     saved p run =
         record {
           answer = p.no_fault_lem;
@@ -41,11 +40,11 @@ module _ (f : CodedFrame) (n : ℕ) where
         }
 
   module _ (states found : List Float) where
-    pub refused_restart : {why : LineRefusal} → refused (line_says why) ≡ checks_at_line f n (length found) → RestartsFrame states found found (Refused why)
+    pub refused_restart : {why : LineRefusal} → refused (line_says why) ≡ checks_at_line f n (length found) → RestartsFrame states found found (Err why)
     refused_restart {why} e = record { answer = e; output = left_alone e _ found }
 
     pub restarted : {row : Row} → PassedLine f row n (length found) → {left : List Float}
-        → left ≡ take n found ++ lines_from n row f.filters f.orders f.indices states f.spectrum → RestartsFrame states found left Decoded
+        → left ≡ take n found ++ lines_from n row f.filters f.orders f.indices states f.spectrum → RestartsFrame states found left (Ok tt)
     restarted p run =
         record {
           answer = p.no_fault_lem;

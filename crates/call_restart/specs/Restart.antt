@@ -1,18 +1,12 @@
 -- docs/RULES.md, "Restart at a line (C-22)": the decoder from a spectrum into an output, split at a line.
-use Rattle.std.specs.Prelude.{◌≡◌, List, ◌++◌, ℕ, Float, length, take}
-use Rattle.check_verdicts.specs.Verdicts.{Verdict, refused, unless_refused, no_fault}
+use Rattle.std.specs.Prelude.{◌≡◌, List, ◌++◌, ℕ, Float, length, take, Result}
+use Rattle.check_verdicts.specs.Verdicts.{unless_refused, verdict_by}
 use Rattle.row_durations.specs.Durations.{duration_of}
 use Rattle.row_bands.specs.Bands.{row_of}
 use Rattle.check_line.specs.LineChecks.{line_call_checks, line_says}
+use Rattle.check_line.specs.declared.LineRefusal.{LineRefusal}
 use Rattle.side_split.specs.SplitRun.{states_before, lines_from}
 use Rattle.call_decode.specs.Decoder.{spectrum_decoded}
-use Rattle.call_restart.specs.declared.LineAnswer.{LineAnswer}
-use Rattle.call_restart.specs.declared.LineAnswer.TheVariants.{Decoded, Refused}
-
--- what an answer of save and of restart says
-abbrev pub line_answer_says : LineAnswer → Verdict (Unit {0})
-line_answer_says Decoded = no_fault
-line_answer_says (Refused why) = refused (line_says why)
 
 -- a caller's two lists, as save finds them or leaves them
 pub record Lent : Type 0 where
@@ -24,8 +18,8 @@ lent_at_line output states = record { output = output; states = states }
 
 -- What save promises: what it answers, that the output then holds what the decode call leaves of the spectrum, and the states before line n. A refusal
 -- leaves both lists as they were.
-pub record Saves (duration bandwidth filters : ℕ) (orders indices : List ℕ) (spectrum : List Float) (n : ℕ) (found left : Lent) (result : LineAnswer) : Type 0 where
-  pub answer : line_answer_says result ≡ line_call_checks duration bandwidth filters orders indices (length spectrum) n (length found.output)
+pub record Saves (duration bandwidth filters : ℕ) (orders indices : List ℕ) (spectrum : List Float) (n : ℕ) (found left : Lent) (result : Result (Unit {0}) LineRefusal) : Type 0 where
+  pub answer : verdict_by line_says result ≡ line_call_checks duration bandwidth filters orders indices (length spectrum) n (length found.output)
   pub output : left.output
       ≡ unless_refused (line_call_checks duration bandwidth filters orders indices (length spectrum) n (length found.output))
       (λ u. spectrum_decoded duration bandwidth filters orders indices spectrum)
@@ -38,8 +32,8 @@ pub record Saves (duration bandwidth filters : ℕ) (orders indices : List ℕ) 
 -- What restart promises: what it answers, and that the output holds below line n what was there before, and from it on what comes of the spectrum and
 -- the states.
 pub record Restarts (duration bandwidth filters : ℕ) (orders indices : List ℕ) (spectrum : List Float) (n : ℕ) (states found left : List Float)
-    (result : LineAnswer) : Type 0 where
-  pub answer : line_answer_says result ≡ line_call_checks duration bandwidth filters orders indices (length spectrum) n (length found)
+    (result : Result (Unit {0}) LineRefusal) : Type 0 where
+  pub answer : verdict_by line_says result ≡ line_call_checks duration bandwidth filters orders indices (length spectrum) n (length found)
   pub output : left
       ≡ unless_refused (line_call_checks duration bandwidth filters orders indices (length spectrum) n (length found))
       (λ u. take n found ++ lines_from n (row_of (duration_of duration) bandwidth) filters orders indices states spectrum)

@@ -7,18 +7,11 @@
 
 ghost use Rattle.call_restart.specs.Restart.{lent_at_line, Saves, Restarts};
 
-use check_frame::{FrameAnswer, check_frame};
-use check_line::{LineCheck, LineRefusal, check_line};
+use check_frame::check_frame;
+use check_line::{LineRefusal, check_line};
 use check_refusals::Refusal;
-use check_side::{SideAnswer, check_side};
+use check_side::check_side;
 use side_split::{row_restarted, row_saved};
-
-// The answer of `save` and `restart`.
-#[derive(Clone, Copy)]
-pub enum LineAnswer {
-    Decoded,
-    Refused(LineRefusal),
-}
 
 // Decodes a whole frame from a spectrum into an output of the same length, and leaves the eight states
 // as they are before line n. A refused call writes neither.
@@ -32,29 +25,14 @@ pub fn save(
     output: &mut [f32],
     n: usize,
     states: &mut [f32; 8],
-) -> LineAnswer
+) -> Result<(), LineRefusal>
     ensures { Saves duration bandwidth filters orders.now indices.now spectrum.now n (lent_at_line output.old states.old) (lent_at_line output.new states.new) result }
 {
-    let frame = check_frame(duration, bandwidth, spectrum.len());
-    match frame {
-        FrameAnswer::Refused(why) => LineAnswer::Refused(LineRefusal::Call(why)),
-        FrameAnswer::Sound(row) => {
-            let side = check_side(filters, orders, indices);
-            match side {
-                SideAnswer::Refused(why) => LineAnswer::Refused(LineRefusal::Call(why)),
-                SideAnswer::Sound => {
-                    let line = check_line(row, spectrum.len(), n, output.len());
-                    match line {
-                        LineCheck::Refused(why) => LineAnswer::Refused(why),
-                        LineCheck::Sound => {
-                            *states = row_saved(row, filters, orders, indices, spectrum, output, n);
-                            LineAnswer::Decoded
-                        }
-                    }
-                }
-            }
-        }
-    }
+    let row = check_frame(duration, bandwidth, spectrum.len())?;
+    let side = check_side(filters, orders, indices)?;
+    check_line(row, spectrum.len(), n, output.len())?;
+    *states = row_saved(row, &side, spectrum, output, n);
+    Ok(())
 }
 
 // Writes the output of a frame from line n on, and nothing below it: the filters go on from the eight
@@ -69,29 +47,12 @@ pub fn restart(
     output: &mut [f32],
     n: usize,
     states: &[f32; 8],
-) -> LineAnswer
+) -> Result<(), LineRefusal>
     ensures { Restarts duration bandwidth filters orders.now indices.now spectrum.now n states.now output.old output.new result }
 {
-    let frame = check_frame(duration, bandwidth, spectrum.len());
-    match frame {
-        FrameAnswer::Refused(why) => LineAnswer::Refused(LineRefusal::Call(why)),
-        FrameAnswer::Sound(row) => {
-            let side = check_side(filters, orders, indices);
-            match side {
-                SideAnswer::Refused(why) => LineAnswer::Refused(LineRefusal::Call(why)),
-                SideAnswer::Sound => {
-                    let line = check_line(row, spectrum.len(), n, output.len());
-                    match line {
-                        LineCheck::Refused(why) => LineAnswer::Refused(why),
-                        LineCheck::Sound => {
-                            row_restarted(
-                                row, filters, orders, indices, spectrum, output, n, *states,
-                            );
-                            LineAnswer::Decoded
-                        }
-                    }
-                }
-            }
-        }
-    }
+    let row = check_frame(duration, bandwidth, spectrum.len())?;
+    let side = check_side(filters, orders, indices)?;
+    check_line(row, spectrum.len(), n, output.len())?;
+    row_restarted(row, &side, spectrum, output, n, *states);
+    Ok(())
 }

@@ -3,19 +3,17 @@
 -- was lent to it.
 use mathlib.Core.Path.{◌≡◌, refl, sym, ◌∙◌, ap}
 use lib.ListN.{length}
-use Rattle.check_verdicts.specs.Verdicts.{Fault, Verdict, accepted, refused, unless_refused, no_fault}
+use Rattle.std.specs.Prelude.{Result, Ok, Err}
+use Rattle.check_verdicts.specs.Verdicts.{Fault, Verdict, accepted, refused, unless_refused, on_accepted, no_fault, verdict_by}
 use Rattle.check_refusals.specs.Refusals.{says}
-use Rattle.check_side.specs.Sides.{side_checks, side_says, SoundSide}
+use Rattle.check_side.specs.Sides.{side_checks, SoundSide}
 use Rattle.check_refusals.specs.declared.Refusal.{Refusal}
-use Rattle.check_side.specs.declared.SideAnswer.{SideAnswer}
-use Rattle.check_side.specs.declared.SideAnswer.TheVariants as side
+use Rattle.check_side.specs.declared.CheckedSide.{CheckedSide}
 use Rattle.check_verdicts.proofs.Verdicts.{settle, not_accepted}
 use Rattle.check_side.proofs.Sides.{sides_settle, sound_side}
 use Rattle.row_bands.specs.declared.Row.{Row}
 use Rattle.row_bands.proofs.Bands.{SoundRow}
-use Rattle.check_frame.specs.Frames.{frame_checks, frame_of, frame_says}
-use Rattle.check_frame.specs.declared.FrameAnswer.{FrameAnswer}
-use Rattle.check_frame.specs.declared.FrameAnswer.TheVariants as frame
+use Rattle.check_frame.specs.Frames.{frame_checks, frame_of}
 use Rattle.check_frame.proofs.Frames.{frames_settle, refused_frame, passed_frame, sound_row, accepted_row}
 use Rattle.check_coded.specs.CodedFrames.{CodedFrame, row_in, checks_of}
 
@@ -42,6 +40,10 @@ ends : (v next : Verdict (Unit {0})) → settle v next ≡ no_fault → (v ≡ n
 ends (accepted u) next e = (refl, e)
 ends (refused fault) next e = not_accepted e
 
+-- what the answer of `check_side` comes to
+abbrev pub checked : Result CheckedSide Refusal → Verdict (Unit {0})
+checked answer = on_accepted (λ _. tt) (verdict_by says answer)
+
 module _ (f : CodedFrame) where
   abbrev side_of : Verdict (Unit {0})
   side_of = side_checks f.filters f.orders f.indices no_fault
@@ -49,27 +51,27 @@ module _ (f : CodedFrame) where
   abbrev rest : Verdict (Unit {0}) → Verdict (Unit {0})
   rest next = side_checks f.filters f.orders f.indices next
 
-  pub frame_refuses : {answer : FrameAnswer} {why : Refusal} → answer ≡ frame.Refused why → frame_says answer ≡ frame_of f.duration f.bandwidth (length f.spectrum)
+  pub frame_refuses : {answer : Result Row Refusal} {why : Refusal} → answer ≡ Err why → verdict_by says answer ≡ frame_of f.duration f.bandwidth (length f.spectrum)
       → (next : Verdict (Unit {0})) → refused (says why) ≡ checks_of f next
   frame_refuses {answer} {why} e told next =
-      sym (refused_frame f.duration f.bandwidth (length f.spectrum) (rest next) (says why) (sym (ap frame_says e) ∙ told))
+      sym (refused_frame f.duration f.bandwidth (length f.spectrum) (rest next) (says why) (sym (ap (verdict_by says) e) ∙ told))
 
-  module _ {answer : FrameAnswer} {row : Row} (e : answer ≡ frame.Sound row) (told : frame_says answer ≡ frame_of f.duration f.bandwidth (length f.spectrum)) where
+  module _ {answer : Result Row Refusal} {row : Row} (e : answer ≡ Ok row) (told : verdict_by says answer ≡ frame_of f.duration f.bandwidth (length f.spectrum)) where
     is_sound : accepted row ≡ frame_of f.duration f.bandwidth (length f.spectrum)
-    is_sound = sym (ap frame_says e) ∙ told
+    is_sound = sym (ap (verdict_by says) e) ∙ told
 
     sides_decide : (next : Verdict (Unit {0})) → checks_of f next ≡ settle side_of next
     sides_decide next =
         (passed_frame f.duration f.bandwidth (length f.spectrum) (rest next) row is_sound).1 ∙ sides_settle f.filters f.orders f.indices next
 
-    pub side_refuses : {side-answer : SideAnswer} {why : Refusal} → side-answer ≡ side.Refused why → side_says side-answer ≡ side_of
+    pub side_refuses : {side-answer : Result CheckedSide Refusal} {why : Refusal} → side-answer ≡ Err why → checked side-answer ≡ side_of
         → (next : Verdict (Unit {0})) → refused (says why) ≡ checks_of f next
     side_refuses {side-answer} {why} d side-told next =
-        ap (λ (v : Verdict (Unit {0})). settle v next) (sym (ap side_says d) ∙ side-told) ∙ sym (sides_decide next)
+        ap (λ (v : Verdict (Unit {0})). settle v next) (sym (ap checked d) ∙ side-told) ∙ sym (sides_decide next)
 
-    pub passes : {side-answer : SideAnswer} → side-answer ≡ side.Sound → side_says side-answer ≡ side_of → PassedFrame f row
+    pub passes : {side-answer : Result CheckedSide Refusal} {side : CheckedSide} → side-answer ≡ Ok side → checked side-answer ≡ side_of → PassedFrame f row
     passes d side-told =
-        let no-fault : side_of ≡ no_fault = sym side-told ∙ ap side_says d in
+        let no-fault : side_of ≡ no_fault = sym side-told ∙ ap checked d in
         record {
           its_row = (passed_frame f.duration f.bandwidth (length f.spectrum) no_fault row is_sound).0;
           bands = sound_row f.duration f.bandwidth (length f.spectrum) row (sym is_sound);

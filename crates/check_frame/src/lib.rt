@@ -3,49 +3,35 @@
 #![tactic(auto)]
 
 ghost use Rattle.std.specs.Prelude.{◌≡◌};
-ghost use Rattle.check_verdicts.specs.Verdicts.{accepted};
+ghost use Rattle.check_verdicts.specs.Verdicts.{accepted, verdict_by};
+ghost use Rattle.check_refusals.specs.Refusals.{says};
 ghost use Rattle.row_bands.specs.Bands.{row_of};
-ghost use Rattle.check_frame.specs.Frames.{length_check, frame_of, frame_says};
+ghost use Rattle.check_frame.specs.Frames.{length_check, frame_of};
 
 use check_refusals::Refusal;
-use check_side::{SideAnswer, check_codes};
+use check_side::check_codes;
 use row_bands::{Row, last_stop, row_of};
 use row_durations::{Duration, longest};
 
-// What the checks 1 to 3 say: the row of a sound frame, or why it is refused.
-#[derive(Clone, Copy)]
-pub enum FrameAnswer {
-    Sound(Row),
-    Refused(Refusal),
-}
-
 // Check 3 of a frame whose duration and bandwidth are known.
-fn frame_of(duration: Duration, bandwidth: u8, lines: usize) -> FrameAnswer
-    ensures { frame_says result ≡ length_check duration bandwidth lines (accepted (row_of duration bandwidth)) }
+fn frame_of(duration: Duration, bandwidth: u8, lines: usize) -> Result<Row, Refusal>
+    ensures { verdict_by says result ≡ length_check duration bandwidth lines (accepted (row_of duration bandwidth)) }
 {
     let row = row_of(duration, bandwidth);
-    if lines < last_stop(row) {
-        return FrameAnswer::Refused(Refusal::SpectrumLength);
+    if lines < last_stop(row) || lines > longest(duration) {
+        return Err(Refusal::SpectrumLength);
     }
-    if lines > longest(duration) {
-        return FrameAnswer::Refused(Refusal::SpectrumLength);
-    }
-    FrameAnswer::Sound(row)
+    Ok(row)
 }
 
 // The checks of a frame that encode and decode share: refusals 1 to 3, in number order, the first
 // standing. Each duration is a literal in its call, so that its numbers are constants there.
-pub fn check_frame(duration: u8, bandwidth: u8, lines: usize) -> FrameAnswer
-    ensures { frame_says result ≡ frame_of duration bandwidth lines }
+pub fn check_frame(duration: u8, bandwidth: u8, lines: usize) -> Result<Row, Refusal>
+    ensures { verdict_by says result ≡ frame_of duration bandwidth lines }
 {
-    let codes = check_codes(duration, bandwidth);
-    match codes {
-        SideAnswer::Refused(why) => FrameAnswer::Refused(why),
-        SideAnswer::Sound => {
-            if duration == 0 {
-                return frame_of(Duration::Ten, bandwidth, lines);
-            }
-            frame_of(Duration::SevenPointFive, bandwidth, lines)
-        }
+    check_codes(duration, bandwidth)?;
+    if duration == 0 {
+        return frame_of(Duration::Ten, bandwidth, lines);
     }
+    frame_of(Duration::SevenPointFive, bandwidth, lines)
 }

@@ -2,49 +2,41 @@
 // of what the numbers are.
 #![tactic(auto)]
 
-ghost use Rattle.std.specs.Prelude.{◌≡◌, false};
-ghost use Rattle.check_limits.specs.LowestOver.{lowest_over, is_nowhere};
+ghost use Rattle.std.specs.Prelude.{◌≡◌, is_none, nat_lt, position};
+ghost use Rattle.check_limits.specs.LowestOver.{lowest_over};
 
-// What a search for a number over a limit finds.
-#[derive(Clone, Copy)]
-pub enum Over {
-    Nowhere,
-    At { place: usize, found: u8 },
+// A number over a limit: where it stands, and what it is.
+#[derive(Clone, Copy, Debug, PartialEq, Eq)]
+pub struct Over {
+    pub place: usize,
+    pub found: u8,
 }
 
-// Whether no number is over `limit`. It has no early way out, so that the compiler can compare them
-// all at once.
+// Whether no number is over `limit`. It has no early way out, as `all` has, so that the compiler can compare
+// them all at once.
 pub fn none_over(numbers: &[u8], limit: u8) -> bool
-    ensures { result ≡ is_nowhere (lowest_over limit 0 numbers.now) }
+    ensures { result ≡ is_none (lowest_over limit 0 numbers.now) }
 {
-    let mut none = true;
-    for i in 0..numbers.len() {
-        if numbers[i] > limit {
-            none = false;
-        }
-    }
-    none
+    numbers
+        .iter()
+        .fold(true, |none, number| none & (*number <= limit))
 }
 
-// The lowest place whose number is over `limit`, where there is one: the search needs no other end.
-fn first_over(numbers: &[u8], limit: u8) -> Over
-    requires { is_nowhere (lowest_over limit 0 numbers.now) ≡ false }
-    ensures { result ≡ lowest_over limit 0 numbers.now }
+// The first place whose number is over `limit`.
+fn first_over(numbers: &[u8], limit: u8) -> Option<usize>
+    ensures { result ≡ position (λ x. nat_lt limit x) numbers.now }
 {
-    let mut place = 0usize;
-    while numbers[place] <= limit {
-        place += 1;
-    }
-    let found = numbers[place];
-    Over::At { place, found }
+    numbers.iter().position(|number| *number > limit)
 }
 
-// The lowest place whose number is over `limit`.
-pub fn lowest_over(numbers: &[u8], limit: u8) -> Over
+// The lowest place whose number is over `limit`, and that number. That there is none is told soonest.
+pub fn lowest_over(numbers: &[u8], limit: u8) -> Option<Over>
     ensures { result ≡ lowest_over limit 0 numbers.now }
 {
     if none_over(numbers, limit) {
-        return Over::Nowhere;
+        return None;
     }
-    first_over(numbers, limit)
+    let place = first_over(numbers, limit)?;
+    let found = numbers[place];
+    Some(Over { place, found })
 }

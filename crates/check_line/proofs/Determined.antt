@@ -6,15 +6,15 @@ use native.Mathlib.Nat.{lt_irrefl}
 use native.Mathlib.Omega.{arith}
 use lib.Dec.{eqb}
 use borrow.Author.Tests.{ne_eqb}
-use Rattle.check_verdicts.specs.Verdicts.{Fault, numbered, placed, Verdict, accepted, refused, number_of}
+use Rattle.std.specs.Prelude.{Result}
+use Rattle.check_verdicts.specs.Verdicts.{Fault, numbered, placed, Verdict, number_of, verdict_by}
+use Rattle.check_verdicts.proofs.Verdicts.{verdict_back, verdict_again}
 use Rattle.check_refusals.specs.Refusals.{says}
 use Rattle.check_refusals.proofs.Eight.{refusal_back, of_eight}
 use Rattle.law_results.proofs.Determined.{Determined, coincide}
-use Rattle.check_line.specs.LineChecks.{line_says, line_check_says}
+use Rattle.check_line.specs.LineChecks.{line_says}
 use Rattle.check_line.specs.declared.LineRefusal.{LineRefusal}
 use Rattle.check_line.specs.declared.LineRefusal.TheVariants.{Call, Line, OutputLength}
-use Rattle.check_line.specs.declared.LineCheck.{LineCheck}
-use Rattle.check_line.specs.declared.LineCheck.TheVariants.{Sound, Refused}
 use Rattle.check_line.proofs.check_line.Kinds as check-line-kinds
 use Rattle.check_line.proofs.check_line.Reads as check-line-reads
 
@@ -36,14 +36,9 @@ line_refusal_back_lem (Call why) = of_a_call (says why) (of_eight why).at_most_8
 line_refusal_back_lem Line = refl
 line_refusal_back_lem OutputLength = refl
 
--- an answer back from its verdict
-abbrev pub line_answer_back : {A R : Type 0} → (A → R) → (LineRefusal → R) → Verdict A → R
-line_answer_back accept refuse (accepted a) = accept a
-line_answer_back accept refuse (refused fault) = refuse (line_refusal_back fault)
-
-line_back : (answer : LineCheck) → line_answer_back (λ (u : Unit {0}). Sound) Refused (line_check_says answer) ≡ answer
-line_back Sound = refl
-line_back (Refused why) = ap Refused (line_refusal_back_lem why)
+-- two results that come to one verdict, where an error says the refusal of a call at a line
+pub by_line_verdict : {A : Type 0} {x y : Result A LineRefusal} {v : Verdict A} → verdict_by line_says x ≡ v → verdict_by line_says y ≡ v → x ≡ y
+by_line_verdict p q = coincide (verdict_by line_says) (verdict_back line_refusal_back) (verdict_again line_says line_refusal_back line_refusal_back_lem) p q
 
 check_line : Determined 0 check-line-kinds.ps check-line-kinds.r check-line-reads.Post
-check_line κs a x y s t p q = coincide line_check_says (line_answer_back (λ u. Sound) Refused) line_back p q
+check_line κs a x y s t p q = by_line_verdict p q

@@ -8,7 +8,8 @@ use native.Mathlib.Omega.{arith}
 use lib.Dec.{ltb, eqb}
 use lib.ListN.{length}
 use borrow.Author.Tests.{ltb-false, eqb-true}
-use Rattle.check_verdicts.specs.Verdicts.{Fault, Verdict, refused, no_fault, check}
+use Rattle.std.specs.Prelude.{Result, Ok, Err}
+use Rattle.check_verdicts.specs.Verdicts.{Fault, Verdict, refused, no_fault, check, verdict_by}
 use Rattle.check_side.specs.Sides.{SoundSide}
 use Rattle.check_verdicts.proofs.Verdicts.{not_accepted}
 use Rattle.row_durations.specs.Durations.{duration_of}
@@ -18,10 +19,8 @@ use Rattle.row_bands.proofs.Bands.{SoundRow}
 use Rattle.row_bands.proofs.Apart.{InTurn, row_in_turn}
 use Rattle.check_coded.specs.CodedFrames.{CodedFrame, row_in, checks_of}
 use Rattle.check_coded.proofs.CodedFrames.{PassedFrame, passed_checks}
-use Rattle.check_line.specs.LineChecks.{line_checks, line_call_checks, checks_at_line, line_says, line_check_says}
+use Rattle.check_line.specs.LineChecks.{line_checks, line_call_checks, checks_at_line, line_says}
 use Rattle.check_line.specs.declared.LineRefusal.{LineRefusal}
-use Rattle.check_line.specs.declared.LineCheck.{LineCheck}
-use Rattle.check_line.specs.declared.LineCheck.TheVariants.{Sound, Refused}
 
 -- what is known of a line and an output that they find no fault with
 pub record SoundLine (row : Row) (lines n output : ℕ) : Type 0 where
@@ -76,13 +75,13 @@ module _ (f : CodedFrame) (n output : ℕ) where
     decides =
         ap (λ (r : Row). line_checks r (length f.spectrum) n output no_fault) p.its_row ∙ sym (p.goes_on (line_checks (row_in f) (length f.spectrum) n output no_fault))
 
-    pub line_refuses : {answer : LineCheck} {why : LineRefusal} → answer ≡ Refused why
-        → line_check_says answer ≡ line_checks row (length f.spectrum) n output no_fault → refused (line_says why) ≡ checks_at_line f n output
-    line_refuses e told = sym (ap line_check_says e) ∙ told ∙ decides
+    pub line_refuses : {answer : Result (Unit {0}) LineRefusal} {why : LineRefusal} → answer ≡ Err why
+        → verdict_by line_says answer ≡ line_checks row (length f.spectrum) n output no_fault → refused (line_says why) ≡ checks_at_line f n output
+    line_refuses e told = sym (ap (verdict_by line_says) e) ∙ told ∙ decides
 
-    pub line_passes : {answer : LineCheck} → answer ≡ Sound → line_check_says answer ≡ line_checks row (length f.spectrum) n output no_fault → PassedLine f row n output
+    pub line_passes : {answer : Result (Unit {0}) LineRefusal} → answer ≡ Ok tt → verdict_by line_says answer ≡ line_checks row (length f.spectrum) n output no_fault → PassedLine f row n output
     line_passes e told =
-        let sound = sound_line row (length f.spectrum) n output (sym told ∙ ap line_check_says e) in
+        let sound = sound_line row (length f.spectrum) n output (sym told ∙ ap (verdict_by line_says) e) in
         record {
           frame = p;
           ready = record {
@@ -92,7 +91,7 @@ module _ (f : CodedFrame) (n output : ℕ) where
             as_long = sound.as_long;
             there = omega (arith, sound.to_stop, p.bands.first_fits.end, p.bands.second_fits.end);
           };
-          no_fault_lem = sym (ap line_check_says e) ∙ told ∙ decides;
+          no_fault_lem = sym (ap (verdict_by line_says) e) ∙ told ∙ decides;
         }
 
   -- the same of a call whose checks find no fault
@@ -100,4 +99,4 @@ module _ (f : CodedFrame) (n output : ℕ) where
   unfolding line_call_checks
   passed_at_line e =
       let both = passed_checks f (line_checks (row_in f) (length f.spectrum) n output no_fault) (sym e) in
-      line_passes both.0 {answer = Sound} refl (sym both.1)
+      line_passes both.0 {answer = Ok tt} refl (sym both.1)

@@ -1,6 +1,6 @@
 -- docs/RULES.md, "Refusal numbers" and "Restart at a line (C-22)": what a call at a line checks, 16 and 17 after the refusals 1 to 7 of every decode call.
 use Rattle.std.specs.Prelude.{◌||◌, not, List, ℕ, ltb, eqb, length}
-use Rattle.check_verdicts.specs.Verdicts.{Fault, numbered, Verdict, refused, no_fault, check}
+use Rattle.check_verdicts.specs.Verdicts.{Fault, numbered, Verdict, no_fault, check}
 use Rattle.check_refusals.specs.Refusals.{says}
 use Rattle.row_durations.specs.Durations.{duration_of}
 use Rattle.row_bands.specs.Bands.{row_of, last_stop}
@@ -8,8 +8,6 @@ use Rattle.row_bands.specs.declared.Row.{Row}
 use Rattle.check_coded.specs.CodedFrames.{CodedFrame, call_checks}
 use Rattle.check_line.specs.declared.LineRefusal.{LineRefusal}
 use Rattle.check_line.specs.declared.LineRefusal.TheVariants.{Call, Line, OutputLength}
-use Rattle.check_line.specs.declared.LineCheck.{LineCheck}
-use Rattle.check_line.specs.declared.LineCheck.TheVariants.{Sound, Refused}
 
 -- 16: line n below the row's first start, or over its last stop. 17: spectrum and output differ in length
 abbrev pub line_checks : {A : Type 0} → Row → ℕ → ℕ → ℕ → Verdict A → Verdict A
@@ -34,8 +32,3 @@ abbrev pub line_says : LineRefusal → Fault
 line_says (Call why) = says why
 line_says Line = numbered 16
 line_says OutputLength = numbered 17
-
--- what the checks 16 and 17 say
-abbrev pub line_check_says : LineCheck → Verdict (Unit {0})
-line_check_says Sound = no_fault
-line_check_says (Refused why) = refused (line_says why)

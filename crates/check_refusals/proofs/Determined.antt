@@ -1,8 +1,12 @@
 -- Any two results that a contract allows for one input coincide: the law of `law_results`, cited for each public function of this crate.
-use Rattle.law_results.proofs.Determined.{Determined, itself}
-use Rattle.check_verdicts.specs.Verdicts.{Verdict, accepted, refused}
+use mathlib.Core.Path.{◌≡◌}
+use Rattle.std.specs.Prelude.{Result}
+use Rattle.law_results.proofs.Determined.{Determined, coincide, itself}
+use Rattle.check_verdicts.specs.Verdicts.{Verdict, verdict_by}
+use Rattle.check_verdicts.proofs.Verdicts.{verdict_back, verdict_again}
+use Rattle.check_refusals.specs.Refusals.{says}
 use Rattle.check_refusals.specs.declared.Refusal.{Refusal}
-use Rattle.check_refusals.proofs.Eight.{refusal_back}
+use Rattle.check_refusals.proofs.Eight.{refusal_back, of_eight}
 use Rattle.check_refusals.proofs.Refusal.number.Kinds as number-kinds
 use Rattle.check_refusals.proofs.Refusal.number.Reads as number-reads
 use Rattle.check_refusals.proofs.Refusal.place.Kinds as place-kinds
@@ -19,7 +23,6 @@ place κs a x y s t p q = itself p q
 found : Determined 0 found-kinds.ps found-kinds.r found-reads.Post
 found κs a x y s t p q = itself p q
 
--- an answer that says the refusals' numbers, back from its verdict
-abbrev pub answer_back : {A R : Type 0} → (A → R) → (Refusal → R) → Verdict A → R
-answer_back accept refuse (accepted a) = accept a
-answer_back accept refuse (refused fault) = refuse (refusal_back fault)
+-- two results that come to one verdict, where an error says the refusals' numbers
+pub by_verdict : {A : Type 0} {x y : Result A Refusal} {v : Verdict A} → verdict_by says x ≡ v → verdict_by says y ≡ v → x ≡ y
+by_verdict p q = coincide (verdict_by says) (verdict_back refusal_back) (verdict_again says refusal_back (λ why. (of_eight why).back)) p q

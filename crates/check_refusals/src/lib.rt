@@ -7,7 +7,7 @@ ghost use Rattle.check_refusals.specs.Refusals.{says};
 
 // Why a call is refused, in the order of the numbers 1 to 8. A refusal of an order or an
 // index holds the lowest bad place and the number found there.
-#[derive(Clone, Copy)]
+#[derive(Clone, Copy, Debug, PartialEq, Eq)]
 pub enum Refusal {
     Duration,
     Bandwidth,
@@ -20,7 +20,7 @@ pub enum Refusal {
 }
 
 impl Refusal {
-    // The refusal's number.
+    // The refusal's number. `as` takes no enum whose variants have fields.
     pub fn number(self) -> u8
         ensures { result ≡ number_of (says self) }
     {
@@ -30,41 +30,29 @@ impl Refusal {
             Refusal::SpectrumLength => 3,
             Refusal::ListLength => 4,
             Refusal::FilterCount => 5,
-            Refusal::Order { place: _, found: _ } => 6,
-            Refusal::Index { place: _, found: _ } => 7,
+            Refusal::Order { .. } => 6,
+            Refusal::Index { .. } => 7,
             Refusal::Weighting => 8,
         }
     }
 
-    // The lowest bad place of refusals 6 and 7, and 0 of the others.
+    // The lowest bad place of refusals 6 and 7, and 0 of the others, as callers are told it.
     pub fn place(self) -> usize
         ensures { result ≡ place_of (says self) }
     {
         match self {
-            Refusal::Order { place, found: _ } => place,
-            Refusal::Index { place, found: _ } => place,
-            Refusal::Duration => 0,
-            Refusal::Bandwidth => 0,
-            Refusal::SpectrumLength => 0,
-            Refusal::ListLength => 0,
-            Refusal::FilterCount => 0,
-            Refusal::Weighting => 0,
+            Refusal::Order { place, .. } | Refusal::Index { place, .. } => place,
+            _ => 0,
         }
     }
 
-    // The number found at that place, and 0 of the others.
+    // The number found at that place, and 0 of the others. It has the shape of `place`, and reads another field.
     pub fn found(self) -> u8
         ensures { result ≡ found_of (says self) }
     {
         match self {
-            Refusal::Order { place: _, found } => found,
-            Refusal::Index { place: _, found } => found,
-            Refusal::Duration => 0,
-            Refusal::Bandwidth => 0,
-            Refusal::SpectrumLength => 0,
-            Refusal::ListLength => 0,
-            Refusal::FilterCount => 0,
-            Refusal::Weighting => 0,
+            Refusal::Order { found, .. } | Refusal::Index { found, .. } => found,
+            _ => 0,
         }
     }
 }

@@ -12,22 +12,22 @@ use Rattle.check_verdicts.specs.Verdicts.{Verdict, numbered, placed, refused, ch
 use Rattle.check_verdicts.proofs.Verdicts.{check_by}
 use Rattle.check_limits.specs.LowestOver.{lowest_over}
 use Rattle.check_limits.specs.declared.Over.{Over}
-use Rattle.check_limits.specs.declared.Over.TheVariants.{Nowhere, At}
+use Rattle.std.specs.Prelude.{Option, Some, None}
 use Rattle.check_limits.proofs.Stands.{found_stands}
 use Rattle.check_side.specs.Sides.{check_at, side_checks, SoundSide}
 
 module _ {A : Type 0} (P : Verdict A → Type 0) where
   check_at_by : (number limit : ℕ) (xs : List ℕ) (next : Verdict A) → ((place : ℕ) → place < length xs → P (refused (placed number place (get_or xs place 0))))
-      → (lowest_over limit 0 xs ≡ Nowhere → P next) → P (check_at number (lowest_over limit 0 xs) next)
+      → (lowest_over limit 0 xs ≡ None → P next) → P (check_at number (lowest_over limit 0 xs) next)
   check_at_by number limit xs next stops goes = cases (lowest_over limit 0 xs) refl
     where
-      cases : (over : Over) → lowest_over limit 0 xs ≡ over → P (check_at number over next)
-      cases Nowhere e = goes e
-      cases (At place found) e =
-          let s = found_stands limit 0 xs place found e in
-          let k : place - 0 ≡ place = omega arith in
-          subst (λ (f : ℕ). P (refused (placed number place f))) (subst (λ (k : ℕ). get_or xs k 0 ≡ found) k s.its_number)
-          (stops place (omega (arith, s.before-end)))
+      cases : (over : Option Over) → lowest_over limit 0 xs ≡ over → P (check_at number over next)
+      cases None e = goes e
+      cases (Some over) e =
+          let s = found_stands limit 0 xs over.place over.found e in
+          let k : over.place - 0 ≡ over.place = omega arith in
+          subst (λ (f : ℕ). P (refused (placed number over.place f))) (subst (λ (k : ℕ). get_or xs k 0 ≡ over.found) k s.its_number)
+          (stops over.place (omega (arith, s.before-end)))
 
   -- checks 4 to 7: a refusal 6 names one of the two orders, 7 one of the sixteen indices, and what follows has sound side data before it
   pub sides_by : (filters : ℕ) (orders indices : List ℕ) (next : Verdict A) → P (refused (numbered 4)) → P (refused (numbered 5))

@@ -1,17 +1,13 @@
 -- docs/RULES.md, "Refusal numbers": the checks that decide 1 and 2, of a frame's codes, and 4 to 7, of side data.
-use Rattle.std.specs.Prelude.{◌≡◌, ◌||◌, not, List, ℕ, ◌≤◌, ltb, eqb, length}
-use Rattle.check_verdicts.specs.Verdicts.{Verdict, refused, placed, no_fault, check}
-use Rattle.check_refusals.specs.Refusals.{says}
+use Rattle.std.specs.Prelude.{◌≡◌, ◌||◌, not, List, ℕ, ◌≤◌, ltb, eqb, length, Option, Some, None}
+use Rattle.check_verdicts.specs.Verdicts.{Verdict, refused, placed, check}
 use Rattle.check_limits.specs.LowestOver.{lowest_over}
 use Rattle.check_limits.specs.declared.Over.{Over}
-use Rattle.check_limits.specs.declared.Over.TheVariants.{Nowhere, At}
-use Rattle.check_side.specs.declared.SideAnswer.{SideAnswer}
-use Rattle.check_side.specs.declared.SideAnswer.TheVariants.{Sound, Refused}
 
 -- a check whose refusal names the lowest bad place and the number found there
-abbrev pub check_at : {A : Type 0} → ℕ → Over → Verdict A → Verdict A
-check_at number Nowhere next = next
-check_at number (At place found) next = refused (placed number place found)
+abbrev pub check_at : {A : Type 0} → ℕ → Option Over → Verdict A → Verdict A
+check_at number None next = next
+check_at number (Some over) next = refused (placed number over.place over.found)
 
 -- 1: duration code is not 0 or 1. 2: bandwidth over 4
 abbrev pub code_checks : {A : Type 0} → ℕ → ℕ → Verdict A → Verdict A
@@ -31,10 +27,5 @@ pub record SoundSide (filters : ℕ) (orders indices : List ℕ) : Type 0 where
   pub two_orders : length orders ≡ 2
   pub sixteen_indices : length indices ≡ 16
   pub count_at_most_2 : filters ≤ 2
-  pub orders_at_most_8 : lowest_over 8 0 orders ≡ Nowhere
-  pub indices_at_most_16 : lowest_over 16 0 indices ≡ Nowhere
-
--- what the shared checks of 1 and 2, and of 4 to 7, say
-abbrev pub side_says : SideAnswer → Verdict (Unit {0})
-side_says Sound = no_fault
-side_says (Refused why) = refused (says why)
+  pub orders_at_most_8 : lowest_over 8 0 orders ≡ None
+  pub indices_at_most_16 : lowest_over 16 0 indices ≡ None

@@ -1,9 +1,10 @@
--- Laws of verdicts, whatever the refusals are: checks that stand one after the other, and what follows them.
+-- Laws of verdicts, whatever the refusals are: checks that stand one after the other, and what follows them; and a result back from its verdict.
 use mathlib.Core.Path.{◌≡◌, refl, sym, ap}
 use mathlib.Core.Bool.{Bool, true, false}
 use Prim.Native.Nat.{ℕ}
+use Rattle.std.specs.Prelude.{Result, Ok, Err}
 use native.Mathlib.Omega.{arith}
-use Rattle.check_verdicts.specs.Verdicts.{Fault, numbered, Verdict, accepted, refused, check}
+use Rattle.check_verdicts.specs.Verdicts.{Fault, numbered, Verdict, accepted, refused, check, verdict_by}
 
 -- what was refused was not accepted
 pub not_accepted : {A C : Type 0} {fault : Fault} {a : A} → refused fault ≡ accepted a → C
@@ -29,3 +30,12 @@ module _ {A : Type 0} (P : Verdict A → Type 0) where
   pub check_by : (number : ℕ) (bad : Bool) (next : Verdict A) → P (refused (numbered number)) → (bad ≡ false → P next) → P (check number bad next)
   check_by number true next stops goes = stops
   check_by number false next stops goes = goes refl
+
+-- a result back from its verdict, by what gives an error back from its fault
+abbrev pub verdict_back : {A E : Type 0} → (Fault → E) → Verdict A → Result A E
+verdict_back back (accepted a) = Ok a
+verdict_back back (refused fault) = Err (back fault)
+
+pub verdict_again : {A E : Type 0} (says : E → Fault) (back : Fault → E) → ((e : E) → back (says e) ≡ e) → (r : Result A E) → verdict_back back (verdict_by says r) ≡ r
+verdict_again says back again (Ok a) = refl
+verdict_again says back again (Err e) = ap Err (again e)

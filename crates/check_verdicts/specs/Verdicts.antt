@@ -1,6 +1,6 @@
 -- docs/RULES.md, "Refusal numbers": what a call answers, by number, and checks that run in number order. A refusal of any kind is a fault, so
 -- what is said here holds of calls on spectra, on blocks and on files.
-use Rattle.std.specs.Prelude.{Bool, cond, ℕ}
+use Rattle.std.specs.Prelude.{Bool, cond, ℕ, Result, Ok, Err}
 
 -- Why a call is refused: a number alone, or a number (6, 7) with the lowest bad place and the number found there. A call of another kind, as of a
 -- file or a text, has refusals of its own; they are faults too, and what is said here of verdicts holds of them.
@@ -12,6 +12,11 @@ pub data Fault : Type 0 where
 pub data Verdict (A : Type 0) : Type 0 where
   accepted : A → Verdict A
   refused : Fault → Verdict A
+
+-- What the result of a function comes to as a verdict: `Ok` is accepted with its value, and `Err` refused for what its error says.
+abbrev pub verdict_by : {A E : Type 0} → (E → Fault) → Result A E → Verdict A
+verdict_by says (Ok a) = accepted a
+verdict_by says (Err e) = refused (says e)
 
 -- the number of a fault, and its place and found value, which are 0 where it names none
 abbrev pub number_of : Fault → ℕ

@@ -1,11 +1,11 @@
 -- docs/RULES.md, "The bits program": weighting, filter count, two orders, sixteen indices. The one place that says where each stands,
 -- for what is read and for what is written.
-use Rattle.std.specs.Prelude.{cond, List, ◌∷◌, ◌++◌, ℕ, ltb, length, get_or}
+use Rattle.std.specs.Prelude.{cond, List, ◌∷◌, ◌++◌, ℕ, ltb, length, get_or, Option, Some, None, Result}
 use Rattle.law_lists.specs.Places.{part}
-use Rattle.check_verdicts.specs.Verdicts.{Verdict}
-use Rattle.cost_call.specs.Cost.{cost_of, cost_says}
-use Rattle.cost_bytes.specs.declared.BytesAnswer.{BytesAnswer}
-use Rattle.cost_bytes.specs.declared.BytesAnswer.TheVariants.{Short, Whole}
+use Rattle.check_verdicts.specs.Verdicts.{Verdict, verdict_by}
+use Rattle.cost_call.specs.Cost.{cost_of}
+use Rattle.check_refusals.specs.Refusals.{says}
+use Rattle.check_refusals.specs.declared.Refusal.{Refusal}
 
 pub record Fields : Type 0 where
   pub weighting : ℕ
@@ -31,6 +31,6 @@ cost_of_fields fields = cost_of fields.weighting fields.filters fields.orders fi
 unfoldable pub line_of : List ℕ → Line
 line_of bytes = cond (ltb (length bytes) 20) short (costs (cost_of_fields (fields_of bytes)))
 
-abbrev pub bytes_say : BytesAnswer → Line
-bytes_say Short = short
-bytes_say (Whole answer) = costs (cost_says answer)
+abbrev pub bytes_say : Option (Result ℕ Refusal) → Line
+bytes_say None = short
+bytes_say (Some answer) = costs (verdict_by says answer)

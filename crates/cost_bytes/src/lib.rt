@@ -5,25 +5,17 @@
 ghost use Rattle.std.specs.Prelude.{◌≡◌, ◌++◌};
 ghost use Rattle.cost_bytes.specs.SideBytes.{line_of, bytes_say};
 
-use cost_call::{CostAnswer, cost};
+use check_refusals::Refusal;
+use cost_call::cost;
 
-// What the side data in some bytes cost, or that the bytes are too few.
-#[derive(Clone, Copy)]
-pub enum BytesAnswer {
-    Short,
-    Whole(CostAnswer),
-}
-
-// The cost of the side data in the first 20 of some bytes.
+// The cost of the side data in the first 20 of some bytes: what the cost call answers, or nothing where the
+// bytes are too few.
 #[tactic(auto, using(crate::proofs::BytesCost::too_few, crate::proofs::BytesCost::enough))]
-pub fn bytes_cost(bytes: &[u8]) -> BytesAnswer
+pub fn bytes_cost(bytes: &[u8]) -> Option<Result<u16, Refusal>>
     ensures { bytes_say result ≡ line_of bytes.now }
 {
-    if bytes.len() < 20 {
-        return BytesAnswer::Short;
-    }
-    let answer = cost(bytes[0], bytes[1], &bytes[2..4], &bytes[4..20]);
-    BytesAnswer::Whole(answer)
+    let bytes = bytes.first_chunk::<20>()?;
+    Some(cost(bytes[0], bytes[1], &bytes[2..4], &bytes[4..]))
 }
 
 // The 20 bytes: the four that come first, which are weighting, filter count and both orders, and after
@@ -31,14 +23,9 @@ pub fn bytes_cost(bytes: &[u8]) -> BytesAnswer
 pub fn side_bytes(head: [u8; 4], first: [u8; 8], second: [u8; 8]) -> [u8; 20]
     ensures { result ≡ head ++ (first ++ second) }
 {
-    let mut bytes = [0u8; 20];
-    bytes[0] = head[0];
-    bytes[1] = head[1];
-    bytes[2] = head[2];
-    bytes[3] = head[3];
-    for k in 0..8usize {
-        bytes[4 + k] = first[k];
-        bytes[12 + k] = second[k];
-    }
+    let mut bytes = [0; 20];
+    bytes[..4].copy_from_slice(&head);
+    bytes[4..12].copy_from_slice(&first);
+    bytes[12..20].copy_from_slice(&second);
     bytes
 }

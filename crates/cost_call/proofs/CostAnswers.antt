@@ -1,15 +1,13 @@
 -- What the cost call answers, and why: what the shared checks refuse is refused, then a weighting over 1, and the rest has its bits.
-use Rattle.std.proofs.Common.{◌≡◌, List, ℕ, ◌<◌, ◌≤◌, ltb, sym, ◌∙◌, subst}
+use Rattle.std.proofs.Common.{Result, Ok, Err, ◌≡◌, List, ℕ, ◌<◌, ◌≤◌, ltb, sym, ◌∙◌, subst}
 use borrow.Author.Tests.{lt-ltb, le-ltb}
-use Rattle.check_verdicts.specs.Verdicts.{numbered, Verdict, accepted, no_fault, refused, bits_in, its_bits, check}
+use Rattle.check_verdicts.specs.Verdicts.{numbered, Verdict, verdict_by, accepted, no_fault, refused, bits_in, its_bits, check}
 use Rattle.check_side.proofs.Sides.{sides_settle}
 use Rattle.check_refusals.specs.Refusals.{says}
 use Rattle.check_side.specs.Sides.{side_checks}
-use Rattle.cost_call.specs.Cost.{cost_of, cost_says, counted_bits, Priced}
+use Rattle.cost_call.specs.Cost.{cost_of, counted_bits, Priced}
 use Rattle.check_refusals.specs.declared.Refusal.{Refusal}
 use Rattle.check_refusals.specs.declared.Refusal.TheVariants.{Weighting}
-use Rattle.cost_call.specs.declared.CostAnswer.{CostAnswer}
-use Rattle.cost_call.specs.declared.CostAnswer.TheVariants.{Bits, Refused}
 use Rattle.check_verdicts.proofs.Verdicts.{settle}
 use Rattle.cost_call.proofs.Costs.{cost_at_most}
 
@@ -31,19 +29,19 @@ module _ (weighting filters : ℕ) (orders indices : List ℕ) where
     has_bits h = sym (by_sides no_fault fine ∙ simp (le-ltb _ _ h))
 
 -- a result that says what the definition does has at most 168 bits
-few : (answer : CostAnswer) (weighting filters : ℕ) (orders indices : List ℕ) → cost_says answer ≡ cost_of weighting filters orders indices
+few : (answer : Result ℕ Refusal) (weighting filters : ℕ) (orders indices : List ℕ) → verdict_by says answer ≡ cost_of weighting filters orders indices
     → Priced (cost_of weighting filters orders indices) answer
 few answer weighting filters orders indices e =
     record { answer = e; few = subst (λ (v : Verdict ℕ). bits_in its_bits v ≤ 168) (sym e) (cost_at_most weighting filters orders indices) }
 
 module _ (weighting filters : ℕ) (orders indices : List ℕ) where
   pub refused_early : (why : Refusal) → refused (says why) ≡ side_checks filters orders indices no_fault
-      → Priced (cost_of weighting filters orders indices) (Refused why)
-  refused_early why e = few (Refused why) weighting filters orders indices (refused_before weighting filters orders indices why e)
+      → Priced (cost_of weighting filters orders indices) (Err why)
+  refused_early why e = few (Err why) weighting filters orders indices (refused_before weighting filters orders indices why e)
 
-  pub refused_late : no_fault ≡ side_checks filters orders indices no_fault → 1 < weighting → Priced (cost_of weighting filters orders indices) (Refused Weighting)
-  refused_late fine h = few (Refused Weighting) weighting filters orders indices (refused_here weighting filters orders indices fine h)
+  pub refused_late : no_fault ≡ side_checks filters orders indices no_fault → 1 < weighting → Priced (cost_of weighting filters orders indices) (Err Weighting)
+  refused_late fine h = few (Err Weighting) weighting filters orders indices (refused_here weighting filters orders indices fine h)
 
   pub bits_stand : no_fault ≡ side_checks filters orders indices no_fault → weighting ≤ 1
-      → Priced (cost_of weighting filters orders indices) (Bits (counted_bits weighting filters orders indices))
-  bits_stand fine h = few (Bits (counted_bits weighting filters orders indices)) weighting filters orders indices (has_bits weighting filters orders indices fine h)
+      → Priced (cost_of weighting filters orders indices) (Ok (counted_bits weighting filters orders indices))
+  bits_stand fine h = few (Ok (counted_bits weighting filters orders indices)) weighting filters orders indices (has_bits weighting filters orders indices fine h)

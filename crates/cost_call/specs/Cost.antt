@@ -1,13 +1,12 @@
 -- docs/RULES.md, "Cost" and "Cost before rounding (C-15)": what the side data of a frame costs in bits, what each filter costs before it is rounded, and
 -- the answer of the cost call.
-use Rattle.std.specs.Prelude.{◌≡◌, List, map, ℕ, ◌≤◌, ltb}
+use Rattle.std.specs.Prelude.{◌≡◌, List, map, ℕ, ◌≤◌, ltb, Result}
 use Rattle.law_lists.specs.Counted.{counted, total}
 use Rattle.cost_filter.specs.FilterCost.{filter_cost, whole_bits, filter_bits}
-use Rattle.check_verdicts.specs.Verdicts.{Verdict, accepted, refused, bits_in, its_bits, check}
+use Rattle.check_verdicts.specs.Verdicts.{Verdict, accepted, verdict_by, bits_in, its_bits, check}
 use Rattle.check_side.specs.Sides.{side_checks}
 use Rattle.check_refusals.specs.Refusals.{says}
-use Rattle.cost_call.specs.declared.CostAnswer.{CostAnswer}
-use Rattle.cost_call.specs.declared.CostAnswer.TheVariants.{Bits, Refused}
+use Rattle.check_refusals.specs.declared.Refusal.{Refusal}
 
 -- per counted filter
 unfoldable pub counted_bits : ℕ → ℕ → List ℕ → List ℕ → ℕ
@@ -27,12 +26,7 @@ cost_of weighting filters orders indices =
     (check 8 (ltb 1 weighting)
     (accepted (counted_bits weighting filters orders indices)))
 
--- what an answer of the cost call says
-abbrev pub cost_says : CostAnswer → Verdict ℕ
-cost_says (Bits bits) = accepted bits
-cost_says (Refused why) = refused (says why)
-
 -- What is promised of it: it says the definition's verdict, and never more than 168 bits.
-pub record Priced (verdict : Verdict ℕ) (result : CostAnswer) : Type 0 where
-  pub answer : cost_says result ≡ verdict
-  pub few : bits_in its_bits (cost_says result) ≤ 168
+pub record Priced (verdict : Verdict ℕ) (result : Result ℕ Refusal) : Type 0 where
+  pub answer : verdict_by says result ≡ verdict
+  pub few : bits_in its_bits (verdict_by says result) ≤ 168

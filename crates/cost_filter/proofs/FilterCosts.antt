@@ -1,18 +1,21 @@
 -- Laws of a filter's cost that callers use in place of its text: a filter that is off costs nothing and takes one bit, a filter within the limits costs
 -- at most 83 * 2048 and takes at most 84 bits, and every sum on the way is below 2 ^ 24. The bounds rest on laws of the tables.
-use mathlib.Core.Path.{◌≡◌, refl}
+use mathlib.Core.Path.{◌≡◌, refl, sym}
 use mathlib.Core.List.{List}
 use Prim.Native.Nat.{ℕ, ◌+◌, ◌*◌, ◌^◌, ◌≤◌, ◌<◌}
 use native.Mathlib.Omega.{arith}
 use lib.ListN.{take, length-take}
 use Rattle.cost_tables.specs.Tables.{of_order, cells_from}
 use Rattle.cost_tables.proofs.TableCosts.{order_cost_affordable, order_cost_at_most, index_costs_at_most}
-use Rattle.cost_filter.specs.FilterCost.{order_cost, index_costs, filter_cost, whole_bits, filter_bits}
+use Rattle.cost_filter.specs.FilterCost.{order_cost, index_costs, filter_cost, whole_bits, filter_bits, FilterPriced}
 
 -- a filter of order 0 is off: it costs nothing but the one bit that says so
 pub off_free : (weighting : ℕ) (indices : List ℕ) → filter_cost weighting 0 indices ≡ 0
 unfolding filter_cost order_cost of_order index_costs cells_from
 off_free weighting indices = refl
+
+pub off_priced : (weighting order : ℕ) (indices : List ℕ) → order ≡ 0 → FilterPriced weighting order indices 0
+off_priced weighting order indices off = rw off (record { cost = sym (off_free weighting indices); few = λ h. omega arith })
 
 pub off_bits : (weighting : ℕ) (indices : List ℕ) → filter_bits weighting 0 indices ≡ 1
 unfolding filter_bits whole_bits

@@ -1,3 +1,2 @@
 -- What a reader has to believe of the cost of one filter.
 pub mod FilterCost
-pub mod Priceable

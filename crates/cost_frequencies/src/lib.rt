@@ -3,11 +3,11 @@
 // and answers 0 outside its table.
 #![tactic(auto)]
 
-ghost use Rattle.std.specs.Prelude.{◌≡◌, true, length};
-ghost use Rattle.cost_tables.specs.Tables.{cell, wide, of_order};
+ghost use Rattle.std.specs.Prelude.{◌≡◌};
+ghost use Rattle.cost_tables.specs.Tables.{cell, of_order};
 ghost use Rattle.cost_frequencies.specs.Frequencies.{order_freq, order_cumfreq, coef_freq, coef_cumfreq};
 
-use cost_tables::of_order;
+use cost_tables::{cell, of_order};
 
 const AC_TNS_ORDER_FREQ: [[u16; 8]; 2] = [
     [3, 9, 23, 54, 111, 190, 268, 366],
@@ -63,23 +63,7 @@ const AC_TNS_COEF_CUMFREQ: [[u16; 17]; 8] = [
     ],
 ];
 
-// One lookup serves both coefficient tables. It requires a table of its rows and columns, which the checker
-// computes of each.
-#[tactic(auto, using(cost_tables::proofs::PastTables::outside_rows, cost_tables::proofs::PastTables::outside_columns))]
-fn of_coefficient(table: &[[u16; 17]; 8], place: u8, index: u8) -> u16
-    requires { (length table.now ≡ 8) × (wide 17 table.now ≡ true) }
-    ensures { result ≡ cell table.now place index }
-{
-    if place > 7 {
-        return 0;
-    }
-    if index > 16 {
-        return 0;
-    }
-    let row = place as usize;
-    let column = index as usize;
-    table[row][column]
-}
+// Each function is one look, by `of_order` or `cell`, at a table of its own, and states which.
 
 // How often an order is expected, in 1024ths.
 pub fn order_freq(weighting: u8, order: u8) -> u16
@@ -99,12 +83,12 @@ pub fn order_cumfreq(weighting: u8, order: u8) -> u16
 pub fn coef_freq(place: u8, index: u8) -> u16
     ensures { result ≡ cell coef_freq place index }
 {
-    of_coefficient(&AC_TNS_COEF_FREQ, place, index)
+    cell(&AC_TNS_COEF_FREQ, place as usize, index as usize)
 }
 
 // The frequencies of the indices before it, added up.
 pub fn coef_cumfreq(place: u8, index: u8) -> u16
     ensures { result ≡ cell coef_cumfreq place index }
 {
-    of_coefficient(&AC_TNS_COEF_CUMFREQ, place, index)
+    cell(&AC_TNS_COEF_CUMFREQ, place as usize, index as usize)
 }

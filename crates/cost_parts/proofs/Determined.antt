@@ -2,13 +2,10 @@
 -- coincides too.
 use mathlib.Core.List.{List}
 use Prim.Native.Nat.{ℕ}
-use Rattle.law_results.proofs.Determined.{DeterminedWith, coincide, itself}
-use Rattle.check_refusals.proofs.Determined.{answer_back}
-use Rattle.cost_call.specs.Cost.{cost_says}
-use Rattle.cost_call.specs.declared.CostAnswer.TheVariants.{Bits, Refused}
-use Rattle.cost_call.proofs.Determined.{cost_back}
+use Rattle.law_results.proofs.Determined.{DeterminedWith, itself}
+use Rattle.check_refusals.proofs.Determined.{by_verdict}
 use Rattle.cost_parts.proofs.cost_2048ths.Kinds as cost-2048ths-kinds
 use Rattle.cost_parts.proofs.cost_2048ths.Reads as cost-2048ths-reads
 
 cost_2048ths : DeterminedWith 3 cost-2048ths-kinds.ps cost-2048ths-kinds.r cost-2048ths-reads.Post (List ℕ) (λ κs s. s.1.1.1.1.0.now)
-cost_2048ths κs a x y s t p q = (coincide cost_says (answer_back Bits Refused) cost_back p.priced.answer q.priced.answer, itself p.told.parts q.told.parts)
+cost_2048ths κs a x y s t p q = (by_verdict p.priced.answer q.priced.answer, itself p.told.parts q.told.parts)

@@ -1,14 +1,18 @@
--- Laws of the two numbers: a counted filter more, their bound, and the bits of the counted ones.
+-- Laws of the two numbers: their bound, the bits of the counted ones, and the numbers by their places.
 use mathlib.Core.Path.{◌≡◌, refl, sym, ◌∙◌}
 use mathlib.Core.List.{List, [], ◌∷◌}
-use Prim.Native.Nat.{ℕ, suc, ◌*◌, ◌-◌, ◌<◌}
+use mathlib.Core.Bool.{cond}
+use Prim.Native.Nat.{ℕ, zero, suc, ◌*◌, ◌-◌, ◌<◌, ◌≤◌}
+use lib.Dec.{ltb}
+use native.Mathlib.Decide.{dec_lt}
+use borrow.Author.Tests.{lt-ltb, le-ltb}
 use native.Mathlib.Omega.{arith}
-use lib.ListN.{length, get_or, set, take, drop, replicate}
-use lib.Seq.{take_at}
+use lib.ListN.{length, get_or, take, drop, replicate}
+use lib.Seq.{take_at, get_or-drop}
+use Rattle.law_lists.specs.Counted.{counted}
 use Rattle.law_lists.specs.Every.{EachAtMost}
-use Rattle.law_lists.proofs.Counted.{counted_length, none_of_them, counted_more}
+use Rattle.law_lists.proofs.Counted.{counted_length}
 use Rattle.law_lists.proofs.Every.{both_at_most, zeros_at_most}
-use Rattle.law_lists.proofs.Filled.{set_next}
 use Rattle.check_limits.proofs.Stands.{none_over}
 use Rattle.check_side.specs.Sides.{SoundSide}
 use Rattle.check_verdicts.specs.Verdicts.{Verdict, accepted, refused, Fault}
@@ -22,21 +26,6 @@ module _ (weighting : ℕ) (orders indices : List ℕ) where
   costs_length : (filters : ℕ) → length (counted_costs weighting filters orders indices) ≡ filters
   unfolding counted_costs
   costs_length filters = counted_length (filter_cost weighting) filters orders indices
-
-  -- none is counted
-  pub no_parts : 0 ∷ 0 ∷ [] ≡ parts_of weighting 0 orders indices
-  unfolding parts_of counted_costs
-  no_parts = rw (none_of_them (filter_cost weighting) orders indices)
-
-  -- one filter more is counted: its cost is stored at its place
-  pub parts_more : (n cost : ℕ) → n < 2 → cost ≡ filter_cost weighting (get_or orders n 0) (take 8 (drop (8 * n) indices))
-      → set (parts_of weighting n orders indices) n cost ≡ parts_of weighting (suc n) orders indices
-  unfolding parts_of counted_costs
-  parts_more n cost h e =
-      let costs = counted_costs weighting n orders indices in
-      let one : 2 - n ≡ suc (2 - suc n) = omega arith in
-      rw (one, counted_more (filter_cost weighting) n orders indices, sym e)
-      (rw (costs_length n) at (set_next 0 costs (2 - suc n) cost))
 
   module _ (filters : ℕ) (sound : SoundSide filters orders indices) where
     pub parts_at_most : EachAtMost (83 * 2048) (parts_of weighting filters orders indices)
@@ -61,3 +50,32 @@ pub accepted_tells : (filters : ℕ) (verdict : Verdict ℕ) (bits : ℕ) → ac
     → bits ≡ each_rounded (take filters its) → TellsParts filters verdict its found its
 accepted_tells filters (accepted n) bits e its found few rounded = let same : n ≡ bits = cc in record { parts = refl; few = few; rounded = same ∙ rounded }
 accepted_tells filters (refused fault) bits e its found few rounded = not_accepted (sym e)
+
+-- ---- the two numbers by their places
+
+-- the number at a place
+abbrev pub part_at : ℕ → ℕ → List ℕ → List ℕ → ℕ → ℕ
+part_at weighting filters orders indices filter = cond (ltb filter filters) (filter_cost weighting (get_or orders filter 0) (take 8 (drop (8 * filter) indices))) 0
+
+pub part_is : (weighting filters : ℕ) (orders indices : List ℕ) (filter n : ℕ)
+    → (filter < filters → n ≡ filter_cost weighting (get_or orders filter 0) (take 8 (drop (8 * filter) indices))) → (filters ≤ filter → n ≡ 0)
+    → n ≡ part_at weighting filters orders indices filter
+part_is weighting filters orders indices filter n counted not = elim (dec_lt filter filters) [
+  | yes below ↦ rw (lt-ltb filter filters below) (counted below)
+  | no beyond ↦ rw (le-ltb filter filters (omega arith)) (not (omega arith))
+]
+
+two_are : (xs : List ℕ) (a b : ℕ) → length xs ≡ 2 → get_or xs 0 0 ≡ a → get_or xs 1 0 ≡ b → xs ≡ a ∷ b ∷ []
+two_are [] a b two first second = absurd (omega arith)
+two_are (x ∷ []) a b two first second = absurd (omega arith)
+two_are (x ∷ y ∷ []) a b two first second = cc
+two_are (x ∷ y ∷ z ∷ xs) a b two first second = absurd (omega arith)
+
+pub by_places : (weighting filters : ℕ) (orders indices xs : List ℕ) → filters ≤ 2 → length xs ≡ 2
+    → ((filter : ℕ) → filter < 2 → get_or xs filter 0 ≡ part_at weighting filters orders indices filter) → xs ≡ parts_of weighting filters orders indices
+unfolding parts_of counted_costs counted
+by_places weighting zero orders indices xs few two each = two_are xs _ _ two (each 0 (omega arith)) (each 1 (omega arith))
+by_places weighting (suc zero) orders indices xs few two each = two_are xs _ _ two (each 0 (omega arith)) (each 1 (omega arith))
+by_places weighting (suc (suc zero)) orders indices xs few two each =
+    rw (get_or-drop 1 orders 0 0) (two_are xs _ _ two (each 0 (omega arith)) (each 1 (omega arith)))
+by_places weighting (suc (suc (suc filters))) orders indices xs few two each = absurd (omega arith)

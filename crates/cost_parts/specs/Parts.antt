@@ -1,9 +1,9 @@
 -- docs/RULES.md, "Cost before rounding (C-15)": what the planner's call tells of each filter.
-use Rattle.std.specs.Prelude.{◌≡◌, List, ◌++◌, ℕ, ◌*◌, ◌-◌, take, replicate}
+use Rattle.std.specs.Prelude.{◌≡◌, List, ◌++◌, ℕ, ◌*◌, ◌-◌, take, replicate, Result}
 use Rattle.law_lists.specs.Every.{EachAtMost}
 use Rattle.check_verdicts.specs.Verdicts.{Verdict, unless_refused, IfAccepted, bits_in, its_bits}
 use Rattle.cost_call.specs.Cost.{counted_costs, each_rounded, Priced}
-use Rattle.cost_call.specs.declared.CostAnswer.{CostAnswer}
+use Rattle.check_refusals.specs.declared.Refusal.{Refusal}
 
 -- two numbers, where at most two filters are counted: the cost of each counted filter, in 2048ths of a bit, and 0 for a filter that is not counted
 unfoldable pub parts_of : ℕ → ℕ → List ℕ → List ℕ → List ℕ
@@ -18,6 +18,6 @@ pub record TellsParts (filters : ℕ) (verdict : Verdict ℕ) (its found left : 
   pub rounded : IfAccepted verdict (bits_in its_bits verdict ≡ each_rounded (take filters left))
 
 -- What is promised of the planner's call: the cost call's answer, and these numbers beside it.
-pub record Planned (filters : ℕ) (verdict : Verdict ℕ) (its found left : List ℕ) (result : CostAnswer) : Type 0 where
+pub record Planned (filters : ℕ) (verdict : Verdict ℕ) (its found left : List ℕ) (result : Result ℕ Refusal) : Type 0 where
   pub priced : Priced verdict result
   pub told : TellsParts filters verdict its found left

@@ -8,23 +8,27 @@ ghost use Rattle.check_side.specs.Sides.{SoundSide};
 ghost use Rattle.cost_call.specs.Cost.{cost_of};
 ghost use Rattle.cost_parts.specs.Parts.{parts_of, Planned};
 
-use cost_call::{CostAnswer, cost};
+use check_refusals::Refusal;
+use cost_call::cost;
 use cost_filter::filter_cost;
 use cost_tables::coef_costs;
+use std::array::from_fn;
 
-// The costs of both filters of side data that the cost call has accepted; a filter that is not counted has 0.
+// The costs of both filters of side data that the cost call has accepted; a filter that is not counted has 0. It takes
+// them as they came, since the cost call, which is asked first, hands no checked ones back.
 fn two_costs(weighting: u8, filters: u8, orders: &[u8], indices: &[u8]) -> [u32; 2]
     requires { SoundSide filters orders.now indices.now }
     ensures { result ≡ parts_of weighting filters orders.now indices.now }
 {
     let costs = coef_costs();
-    let mut parts = [0u32; 2];
-    for filter in 0..filters as usize {
-        let from = 8 * filter;
-        let end = from + 8;
-        parts[filter] = filter_cost(&costs, weighting, orders[filter], &indices[from..end]);
-    }
-    parts
+    let (eights, _) = indices.as_chunks::<8>();
+    from_fn(|filter| {
+        if filter < filters as usize {
+            filter_cost(&costs, weighting, orders[filter], &eights[filter])
+        } else {
+            0
+        }
+    })
 }
 
 // The cost of a frame's side data, for any numbers and lists of any lengths: what `cost` answers, and beside
@@ -37,15 +41,10 @@ pub fn cost_2048ths(
     orders: &[u8],
     indices: &[u8],
     parts: &mut [u32; 2],
-) -> CostAnswer
+) -> Result<u16, Refusal>
     ensures { Planned filters (cost_of weighting filters orders.now indices.now) (parts_of weighting filters orders.now indices.now) parts.old parts.new result }
 {
-    let answer = cost(weighting, filters, orders, indices);
-    match answer {
-        CostAnswer::Refused(why) => CostAnswer::Refused(why),
-        CostAnswer::Bits(bits) => {
-            *parts = two_costs(weighting, filters, orders, indices);
-            CostAnswer::Bits(bits)
-        }
-    }
+    let bits = cost(weighting, filters, orders, indices)?;
+    *parts = two_costs(weighting, filters, orders, indices);
+    Ok(bits)
 }

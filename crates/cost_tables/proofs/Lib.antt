@@ -1,5 +1,4 @@
 -- The laws that belong to no one function.
-pub mod PastTables
 pub mod InOneRun
 pub mod TableCosts
 pub mod Determined

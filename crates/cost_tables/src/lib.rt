@@ -1,11 +1,10 @@
 // The costs of T, `temporal_noise_shaping_tables.rs`, and how a number is read out of one of its tables.
-// Layers above rely on these contracts alone. The lookup of an order takes any numbers and answers 0 outside
-// its table. `of_order` requires that the table it is lent has its rows and columns: whoever calls it lends
-// a table of that form, which the checker computes.
+// Layers above rely on these contracts alone. The lookups of a number and of an order take any numbers and
+// answer 0 outside their table.
 #![tactic(auto)]
 
-ghost use Rattle.std.specs.Prelude.{◌≡◌, true, ◌<◌, length};
-ghost use Rattle.cost_tables.specs.Tables.{cell, wide, in_one_run, of_order, order_bits, coef_bits};
+ghost use Rattle.std.specs.Prelude.{◌≡◌, ◌<◌};
+ghost use Rattle.cost_tables.specs.Tables.{cell, in_one_run, of_order, order_bits, coef_bits};
 
 const AC_TNS_ORDER_BITS: [[u16; 8]; 2] = [
     [17234, 13988, 11216, 8694, 6566, 4977, 3961, 3040],
@@ -40,24 +39,30 @@ const AC_TNS_COEF_BITS: [u16; 136] = [
     20480, 20480, 20480,
 ];
 
-// One lookup serves the three order tables, whose columns begin at order 1. It requires a table of its rows
-// and columns (see the heading).
+// The number of a table at a row and a column, or 0 outside the table. With `map_or` or `and_then` in place of the match
+// the proof did not close.
+pub fn cell<const ROWS: usize, const COLUMNS: usize>(
+    table: &[[u16; COLUMNS]; ROWS],
+    row: usize,
+    column: usize,
+) -> u16
+    ensures { result ≡ cell table.now row column }
+{
+    match table.get(row) {
+        Some(columns) => columns.get(column).copied().unwrap_or(0),
+        None => 0,
+    }
+}
+
+// The number of an order table, whose columns begin at order 1.
+#[tactic(auto, unfolding(crate::specs::Tables::of_order))]
 pub fn of_order(table: &[[u16; 8]; 2], weighting: u8, order: u8) -> u16
-    requires { (length table.now ≡ 2) × (wide 8 table.now ≡ true) }
     ensures { result ≡ of_order table.now weighting order }
 {
-    if weighting > 1 {
-        return 0;
-    }
     if order == 0 {
         return 0;
     }
-    if order > 8 {
-        return 0;
-    }
-    let row = weighting as usize;
-    let column = order as usize - 1;
-    table[row][column]
+    cell(table, weighting as usize, order as usize - 1)
 }
 
 // What an order costs, in 2048ths of a bit.
@@ -67,19 +72,32 @@ pub fn order_bits(weighting: u8, order: u8) -> u16
     of_order(&AC_TNS_ORDER_BITS, weighting, order)
 }
 
-// What the indices cost, in one run. The compiler copies a constant to the stack wherever it is read at a
-// position that it does not know, so whoever looks up several costs binds them once and lends them.
-pub fn coef_costs() -> [u16; 136]
-    ensures { result ≡ in_one_run coef_bits }
-{
-    AC_TNS_COEF_BITS
+// What the indices cost, in one run. Whoever has a value of this type has T's costs.
+#[derive(Clone, Copy)]
+pub struct IndexCosts {
+    pub run: [u16; 136],
+    pub ghost its: { run ≡ in_one_run coef_bits },
 }
 
-// What an index costs at a place, in 2048ths of a bit. It requires the costs of `coef_costs`, and a place
-// and an index that they have: whoever asks has checked both.
-pub fn coef_bits(costs: &[u16; 136], place: usize, index: u8) -> u16
-    requires { (costs.now ≡ in_one_run coef_bits) × (place < 8) × (index < 17) }
-    ensures { result ≡ cell coef_bits place index }
+impl IndexCosts {
+    // What an index costs at a place, in 2048ths of a bit. It requires a place and an index that T has:
+    // whoever asks has checked both.
+    #[tactic(auto, using(crate::proofs::InOneRun::run_at))]
+    pub fn coef_bits(&self, place: usize, index: u8) -> u16
+        requires { (place < 8) × (index < 17) }
+        ensures { result ≡ cell coef_bits place index }
+    {
+        self.run[17 * place + index as usize]
+    }
+}
+
+// T's costs. The compiler copies a constant to the stack wherever it is read at a position that it does not
+// know, so whoever looks up several costs binds them once and lends them.
+#[tactic(auto, unfolding(crate::specs::Tables::in_one_run))]
+pub fn coef_costs() -> IndexCosts
+    ensures { result.run ≡ in_one_run coef_bits }
 {
-    costs[17 * place + index as usize]
+    IndexCosts {
+        run: AC_TNS_COEF_BITS,
+    }
 }

@@ -1,6 +1,6 @@
 -- docs/RULES.md, "Gains (C-18)": cases of a filter's record, one list and one statement that the checker computes of the definitions. Then what an encode
 -- call tells of a silent frame without a second band, and of a frame that it refuses.
-use Rattle.std.specs.Prelude.{◌≡◌, refl, Bool, true, false, ◌&&◌, List, [], ◌∷◌, ℕ, eqb, replicate, Float}
+use Rattle.std.specs.Prelude.{◌≡◌, refl, Bool, true, false, ◌&&◌, List, [], ◌∷◌, ℕ, eqb, replicate}
 use Rattle.std.specs.Float.{binary32}
 use Rattle.std.specs.Float.Ieee.{of_bits, to_bits, add, sub, mul, div, neg, eq, ne, lt}
 use Rattle.law_lists.specs.Every.{every}

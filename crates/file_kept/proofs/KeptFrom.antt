@@ -1,43 +1,38 @@
--- How many blocks are kept from a place on, and what the portion at that place adds.
-use mathlib.Core.Path.{◌≡◌, sym, ◌∙◌, ap}
-use mathlib.Core.List.{List, ◌∷◌}
-use Prim.Native.Nat.{ℕ, suc, ◌+◌, ◌-◌, ◌<◌, ◌≤◌, min}
-use native.Mathlib.Omega.{arith}
-use lib.ListN.{length, take, drop, length-take, drop_of_length-le}
+-- How many of some blocks are kept, counted by a test of each.
+use mathlib.Core.Path.{◌≡◌, refl, ◌∙◌, ap}
+use mathlib.Core.Bool.{Bool, true, false, cond}
+use mathlib.Core.List.{List, [], ◌∷◌}
+use Prim.Native.Nat.{ℕ, suc}
+use lib.ListN.{length, take}
 use lib.Seq.{take_all}
-use Rattle.law_lists.specs.Portions.{portions}
-use Rattle.law_lists.proofs.Portions.{portions_at, portions_none}
-use Rattle.check_verdicts.specs.Verdicts.{Fault, accepted, refused, on_accepted}
-use Rattle.block_parts.specs.Parts.{number_in}
-use Rattle.block_check.proofs.Verdicts.{refused_too, accepted_too}
+use Rattle.std.specs.Prelude.{Result, Ok, Err, is_ok, filter}
+use Rattle.check_verdicts.specs.Verdicts.{Verdict, accepted, refused, verdict_by, on_accepted, unless_refused}
+use Rattle.block_check.specs.Told.{block_fault}
+use Rattle.block_check.specs.declared.check.BlockRefusal.{BlockRefusal}
 use Rattle.block_kept.specs.Kept.{kept_verdict}
 use Rattle.file_rescued.specs.Rescues.{kept_of}
-use Rattle.file_rescued.proofs.KeptBlocks.{kept_first, left_first}
-use Rattle.file_rescued.proofs.Accounted.{none_kept}
+use Rattle.file_rescued.proofs.Portioned.{AllPortions}
 
--- how many are kept from a place on
-abbrev pub kept_from : ℕ → List ℕ → ℕ
-kept_from from bytes = length (kept_of (portions 512 (drop from bytes)))
+abbrev accepts : Verdict (List ℕ) → Bool
+accepts verdict = unless_refused verdict (λ records. true) false
 
-module _ (bytes : List ℕ) (from end : ℕ) (here : from < length bytes) (ends : end ≡ min (from + 512) (length bytes)) where
-  abbrev pub portion : List ℕ
-  portion = take (end - from) (drop from bytes)
+-- the test of a block, which looks at its first 512 bytes
+abbrev pub is_kept : List ℕ → Bool
+is_kept block = accepts (kept_verdict (take 512 block))
 
-  cut : portions 512 (drop from bytes) ≡ take (end - from) (drop from bytes) ∷ portions 512 (drop end bytes)
-  cut = portions_at 512 (omega arith) from end bytes here ends
+-- it is what the check answers
+pub kept_told : (answer : Result ℕ BlockRefusal) (says : List ℕ → ℕ) (verdict : Verdict (List ℕ)) → verdict_by block_fault answer ≡ on_accepted says verdict → is_ok answer ≡ accepts verdict
+kept_told (Ok own) says (accepted records) e = refl
+kept_told (Ok own) says (refused fault) e = cc
+kept_told (Err why) says (accepted records) e = cc
+kept_told (Err why) says (refused fault) e = refl
 
-  whole : kept_verdict (take 512 (take (end - from) (drop from bytes))) ≡ kept_verdict (take (end - from) (drop from bytes))
-  whole = ap kept_verdict (take_all 512 portion (omega (arith, length-take (end - from) (drop from bytes))))
-
-  pub one_kept : (own : ℕ) → accepted own ≡ on_accepted (λ _. number_in portion) (kept_verdict (take 512 portion)) → kept_from from bytes ≡ suc (kept_from end bytes)
-  one_kept own e =
-      let from-it = accepted_too _ (kept_verdict (take 512 portion)) own e in
-      ap length (ap kept_of cut ∙ kept_first portion (portions 512 (drop end bytes)) from-it.of (sym whole ∙ from-it.verdict))
-
-  pub one_left : (fault : Fault) → refused fault ≡ on_accepted (λ _. number_in portion) (kept_verdict (take 512 portion)) → kept_from from bytes ≡ kept_from end bytes
-  one_left fault e =
-      ap length (ap kept_of cut ∙ left_first portion (portions 512 (drop end bytes)) fault (sym whole ∙ refused_too _ (kept_verdict (take 512 portion)) fault e))
-
-pub none_left : (bytes : List ℕ) (from : ℕ) → length bytes ≤ from → kept_from from bytes ≡ 0
-none_left bytes from h =
-    ap (λ (b : List ℕ). length (kept_of (portions 512 b))) (drop_of_length-le bytes h) ∙ ap (λ (ps : List (List ℕ)). length (kept_of ps)) (portions_none 512) ∙ omega (arith, none_kept 0)
+pub kept_counted : (ps : List (List ℕ)) → AllPortions ps → length (filter is_kept ps) ≡ length (kept_of ps)
+unfolding kept_of
+kept_counted [] all = refl
+kept_counted (p ∷ ps) all = ap (λ (q : List ℕ). length (cond (accepts (kept_verdict q)) (p ∷ filter is_kept ps) (filter is_kept ps))) (take_all 512 p all.0.few) ∙ by (kept_counted ps all.1) (kept_verdict p)
+  where
+    by : length (filter is_kept ps) ≡ length (kept_of ps) → (v : Verdict (List ℕ))
+        → length (cond (accepts v) (p ∷ filter is_kept ps) (filter is_kept ps)) ≡ length (unless_refused v (λ records. p ∷ kept_of ps) (kept_of ps))
+    by rest (accepted records) = ap suc rest
+    by rest (refused fault) = rest

@@ -11,7 +11,8 @@ use lib.ListN.{length, get_or, take, drop, replicate, length-take, length-drop, 
 use lib.Seq.{take_at, drop_at, drop-drop, get_or-append-add}
 use Rattle.law_lists.proofs.Every.{and_left, and_right}
 use Rattle.check_verdicts.specs.Verdicts.{accepted}
-use Rattle.check_limits.specs.LowestOver.{lowest_over, is_nowhere}
+use Rattle.check_limits.specs.LowestOver.{lowest_over}
+use Rattle.std.specs.Prelude.{is_none}
 use Rattle.block_numbers.specs.Words.{word_at}
 use Rattle.block_numbers.specs.Sums.{sums_of}
 use Rattle.block_record.specs.RecordBytes.{sound_record}
@@ -44,7 +45,7 @@ whole_records bytes e = whole_in (length bytes) bytes (omega arith) e
 
 -- ---- the parts of a block that is written
 
-no_zero_over : (n place : ℕ) → is_nowhere (lowest_over 0 place (replicate n 0)) ≡ true
+no_zero_over : (n place : ℕ) → is_none (lowest_over 0 place (replicate n 0)) ≡ true
 unfolding lowest_over
 no_zero_over zero place = refl
 no_zero_over (suc n) place = no_zero_over n (suc place)

@@ -1,7 +1,7 @@
 -- A block that is accepted is the one that its number and its records are written as: no other byte is free. So a file of which reading refuses
 -- nothing is determined by how its records are cut into blocks.
 use mathlib.Core.Path.{◌≡◌, refl, sym, ◌∙◌, ap}
-use mathlib.Core.Bool.{true, false, ◌&&◌}
+use mathlib.Core.Bool.{true, ◌&&◌}
 use mathlib.Core.List.{List, [], ◌∷◌, ◌++◌, map, append_assoc}
 use Prim.Native.Nat.{ℕ, zero, suc, ◌+◌, ◌-◌, ◌*◌, ◌/◌, ◌%◌, ◌≤◌, ◌<◌}
 use native.Mathlib.Decide.{dec_lt}
@@ -15,9 +15,9 @@ use Rattle.law_lists.specs.Portions.{portions}
 use Rattle.law_lists.proofs.Every.{and_left, and_right}
 use Rattle.law_lists.proofs.Portions.{portions_first, portions_none}
 use Rattle.check_verdicts.specs.Verdicts.{Verdict, accepted, refused}
-use Rattle.check_limits.specs.LowestOver.{lowest_over, is_nowhere}
+use Rattle.std.specs.Prelude.{Option, Some, None, is_none}
+use Rattle.check_limits.specs.LowestOver.{lowest_over}
 use Rattle.check_limits.specs.declared.Over.{Over}
-use Rattle.check_limits.specs.declared.Over.TheVariants.{Nowhere, At}
 use Rattle.check_limits.proofs.Stands.{none_over}
 use Rattle.block_numbers.specs.Words.{word_at, word_bytes}
 use Rattle.block_numbers.specs.Sums.{sums_of}
@@ -41,9 +41,9 @@ zeros_only xs e =
     let zero-there : get_or {A = ℕ} (replicate (length xs) 0) i 0 ≡ 0 = get_or-replicate {A = ℕ} (length xs) i 0 0 h in
     omega arith)
   where
-    nowhere : (o : Over) → is_nowhere o ≡ true → o ≡ Nowhere
-    nowhere Nowhere e = refl
-    nowhere (At place found) e = let z : false ≡ true = e in let y : ◌≡◌ {A = ℕ} 0 1 = cc in absurd (omega arith)
+    nowhere : (o : Option Over) → is_none o ≡ true → o ≡ None
+    nowhere None e = refl
+    nowhere (Some over) e = cc
 
 first_four : (xs : List ℕ) → 4 ≤ length xs → take 4 xs ≡ get_or xs 0 0 ∷ get_or xs 1 0 ∷ get_or xs 2 0 ∷ get_or xs 3 0 ∷ []
 first_four [] h = absurd (omega arith)

@@ -60,7 +60,8 @@ fn not_above(x: f32) -> u32
 // The index of a reflection coefficient, for every f32. The search goes by its size, and its sign, which cannot
 // be foreseen either, decides only what becomes of the count. NaN is not at most 1, and counts as 0. Numbers
 // stay as wide as an f32 up to the last line, so that the compiler can take several of a filter's eight side by
-// side (docs/DECISIONS.md, "Speed").
+// side (docs/DECISIONS.md, "Speed"). With `x.abs()`, which tests for 0 too, an encoder call takes 3 to 7
+// percent longer.
 pub fn index_of(x: f32) -> u8
     ensures { result ≡ index_of x }
 {
@@ -70,15 +71,13 @@ pub fn index_of(x: f32) -> u8
     index as u8
 }
 
-// The order of a filter: its last place whose index is not 8, counted from 1, or 0.
+// The order of a filter: its last place whose index is not 8, counted from 1, or 0. A closure in `map_or` would have to
+// require that the place is below 8; in the match that is known.
 pub fn order_of(indices: [u8; 8]) -> u8
     ensures { result ≡ order_of indices }
 {
-    let mut order = 0u8;
-    for k in 0..8usize {
-        if indices[k] != 8 {
-            order = k as u8 + 1;
-        }
+    match indices.iter().rposition(|index| *index != 8) {
+        Some(place) => place as u8 + 1,
+        None => 0,
     }
-    order
 }

@@ -1,4 +1,3 @@
 -- The laws that belong to no one function.
 pub mod CoefficientFactors
 pub mod Determined
-pub mod InTable

@@ -26,15 +26,11 @@ const COEFFICIENTS: [f32; 17] = [
 ];
 
 // The coefficient of an index from 0 to 16, and 0 of any other.
-#[tactic(auto, using(crate::proofs::InTable::of_table, crate::proofs::InTable::past_table))]
+#[tactic(auto, unfolding(crate::specs::Coefficients::coefficient_of))]
 pub fn coefficient_of(index: u8) -> f32
     ensures { result ≡ coefficient_of index }
 {
-    if index > 16 {
-        return 0.0;
-    }
-    let i = index as usize;
-    COEFFICIENTS[i]
+    COEFFICIENTS.get(index as usize).copied().unwrap_or(0.0)
 }
 
 // The coefficients of a filter's eight indices, for the decoder. The table is bound once: read by
@@ -45,11 +41,5 @@ pub fn eight_coefficients(indices: [u8; 8]) -> [f32; 8]
     ensures { result ≡ map coefficient_of indices }
 {
     let table = COEFFICIENTS;
-    let mut q = [0.0; 8];
-    for k in 0..8usize {
-        let index = indices[k] as usize;
-        let coefficient = if index < 17 { table[index] } else { 0.0 };
-        q[k] = coefficient;
-    }
-    q
+    indices.map(|index| table.get(index as usize).copied().unwrap_or(0.0))
 }

@@ -7,55 +7,40 @@ ghost use Rattle.std.specs.Prelude.{◌≤◌, length};
 ghost use Rattle.io_blocks.specs.PutBlocks.{PutsBlocks};
 
 use block_check::BlockRefusal;
-use io_portion::{Step, Way, put_block, size_of};
-use law_numbers::least;
+use io_portion::Way;
+use text_put::Text;
 
-// How the blocks of a piece end.
-#[derive(Clone, Copy)]
-pub enum Ended {
-    Whole,
-    Refused(BlockRefusal),
-}
-
-// How many bytes were put, the number of the block that is next, or is refused, and how it ended.
+// The number of the block that is next, or is refused, and how the blocks of a piece ended.
 #[derive(Clone, Copy)]
 pub struct Done {
-    pub count: usize,
     pub next: u64,
-    pub ended: Ended,
+    pub ended: Result<(), BlockRefusal>,
 }
 
-// Puts what the blocks in some bytes become, the first of this number, up to the first that is refused.
-// What is left over of the bytes is a block too. It takes any numbers and lists; the promise is for a
+// Puts what the blocks in some bytes become, and nothing before it, the first of this number, up to the first that
+// is refused. What is left over of the bytes is a block too. It takes any numbers and bytes; the promise is for a
 // piece of input and room for what becomes of it.
-pub fn put_blocks(way: Way, number: u64, bytes: &[u8], out: &mut [u8]) -> Done
-    ensures { (number ≤ 65536) × (length bytes.now ≤ 61440) × (66048 ≤ length out.old) → PutsBlocks way number bytes.now out.new result }
+pub fn put_blocks<W: Way<ROOM>, const ROOM: usize>(
+    number: u64,
+    bytes: &[u8],
+    out: &mut Text<ROOM>,
+) -> Done
+    ensures { (number ≤ 65536) × (length bytes.now ≤ 61440) × (66048 ≤ ROOM) → PutsBlocks W.SIZE W.verdict number bytes.now out.new result }
 {
-    let size = size_of(way);
-    let mut at = 0usize;
-    let mut from = 0usize;
+    out.clear();
+    // counted beside the chunks, since `Done` says at which number they end
     let mut next = number;
-    while from < bytes.len() {
-        let end = least(from + size, bytes.len());
-        let step = put_block(way, next, &bytes[from..end], out, at);
-        match step {
-            Step::Refused(why) => {
-                return Done {
-                    count: at,
-                    next,
-                    ended: Ended::Refused(why),
-                };
-            }
-            Step::Put(count) => {
-                at = count;
-                from = end;
-                next += 1;
-            }
+    for portion in bytes.chunks(W::SIZE) {
+        if let Err(why) = W::put_block(next, portion, out) {
+            return Done {
+                next,
+                ended: Err(why),
+            };
         }
+        next += 1;
     }
     Done {
-        count: at,
         next,
-        ended: Ended::Whole,
+        ended: Ok(()),
     }
 }

@@ -1,11 +1,11 @@
 // Files by their names: whether a name is taken, what is said of one, and how the file that is made gets its own.
 // What a look at a name finds is promised by what the system answered, and so are the texts; what the system does
 // with a name cannot be.
-#![tactic(auto)]
+#![tactic(auto, using(text_put::proofs::Pieces::pieces))]
 
-ghost use Rattle.std.specs.Prelude.{◌≡◌, ◌≤◌, true, length, IfOk, IfSome};
+ghost use Rattle.std.specs.Prelude.{◌≡◌, ◌≤◌, true, [], length, IfOk, IfSome};
 ghost use Rattle.std.specs.Fd.{file_raw_fd};
-ghost use Rattle.text_put.specs.Text.{Puts};
+ghost use Rattle.text_put.specs.Text.{after};
 ghost use Rattle.io_names.specs.Looks.{look_of};
 ghost use Rattle.io_names.specs.Said.{said_text};
 ghost use Rattle.io_names.specs.Opened.{is_apart};
@@ -18,47 +18,35 @@ use std::io::ErrorKind;
 use std::os::fd::{AsRawFd, IntoRawFd};
 use std::rt::Env;
 use std::{fs, io, str};
-use text_put::put;
-
-// What a look at a name finds: that nothing has it, that something has, or neither.
-#[derive(Clone, Copy)]
-enum Look {
-    Free,
-    Taken,
-    Unknown,
-}
+use text_put::Text;
 
 // Room for what is said of the longest path that there is.
-const LONGEST: usize = 4200;
+pub const LONGEST: usize = 4200;
 
-// Puts what is said of a file, by its name.
-fn put_said(name: &[u8], what: &[u8], text: &mut [u8]) -> usize
-    ensures { Puts (said_text name.now what.now) text.old 0 result text.new }
+// What is said of a file, by its name.
+fn said(name: &[u8], what: &[u8]) -> Text<LONGEST>
+    ensures { result ≡ after LONGEST [] (said_text name.now what.now) }
 {
-    let begun = put(b"tns: ", text, 0);
-    let named = put(name, text, begun);
-    put(what, text, named)
+    let mut text = Text::new();
+    text.put(b"tns: ");
+    text.put(name);
+    text.put(what);
+    text
 }
 
 // Says what failed of a file, by its name, and the system's reason.
 pub fn failed_at(rt: &HostRuntime, name: &[u8], reason: io::Error) {
-    let mut text = [0u8; LONGEST];
-    let count = put_said(name, b"", &mut text);
-    failed(rt, &text[..count], reason);
+    failed(rt, said(name, b"").as_bytes(), reason);
 }
 
 // Says something else of a file, by its name.
 pub fn complain_of(rt: &HostRuntime, name: &[u8], what: &[u8]) {
-    let mut text = [0u8; LONGEST];
-    let count = put_said(name, what, &mut text);
-    complain(rt, &text[..count]);
+    complain(rt, said(name, what).as_bytes());
 }
 
-// Says of a file, by its name, what is no failure.
+// Says of a file, by its name, what is no failure: `complain_of` with `say`, where a closure for it would be longer.
 fn note(rt: &HostRuntime, name: &[u8], what: &[u8]) {
-    let mut text = [0u8; LONGEST];
-    let count = put_said(name, what, &mut text);
-    say(rt, &text[..count]);
+    say(rt, said(name, what).as_bytes());
 }
 
 // Says of a file that it is another than it was when it was first read.
@@ -66,28 +54,34 @@ pub fn complain_of_change(rt: &HostRuntime, name: &[u8]) {
     complain_of(rt, name, b": changed while it was read\n");
 }
 
-// Why an argument is not taken, as the system would say it: it is missing, or longer than any path may be.
+// The system's numbers of two reasons: that an argument is not valid, and that a name is too long.
 const EINVAL: i32 = 22;
 
 const ENAMETOOLONG: i32 = 36;
 
-// Puts the name that an argument gives at the start of `name`, and answers its length, or why it is not there.
-pub fn argument(rt: &HostRuntime, number: usize, name: &mut [u8]) -> io::Result<usize>
-    ensures { IfOk result (λ count. count ≤ length name.new) }
+// Why an argument is not taken, as the system would say it: it is missing, or longer than any path may be.
+fn reason_of(missing: FillError) -> io::Error {
+    io::Error::from_raw_os_error(match missing {
+        FillError::NotPresent => EINVAL,
+        FillError::TooLong => ENAMETOOLONG,
+    })
+}
+
+// The name that an argument gives, or why it is not there.
+pub fn argument<const ROOM: usize>(rt: &HostRuntime, number: usize) -> io::Result<Text<ROOM>>
+    ensures { IfOk result (λ name. length name ≤ ROOM) }
 {
-    match rt.arg(number, name) {
-        Ok(count) => Ok(count),
-        Err(FillError::NotPresent) => Err(io::Error::from_raw_os_error(EINVAL)),
-        Err(FillError::TooLong) => Err(io::Error::from_raw_os_error(ENAMETOOLONG)),
-    }
+    let mut name = [0u8; ROOM];
+    let count = rt.arg(number, &mut name[..]).map_err(reason_of)?;
+    Ok(Text::filled(name, count))
 }
 
 // A path as the system is given it: as text. One that is not UTF-8 names no file here.
 fn text_of(path: &[u8]) -> io::Result<&str> {
-    match str::from_utf8(path) {
-        Ok(text) => Ok(text),
-        Err(_) => Err(io::Error::new(ErrorKind::InvalidInput, "the name is not UTF-8")),
-    }
+    str::from_utf8(path).map_err(|_| io::Error::new(
+        ErrorKind::InvalidInput,
+        "the name is not UTF-8",
+    ))
 }
 
 fn open_read(rt: &HostRuntime, path: &[u8]) -> io::Result<File> {
@@ -100,12 +94,10 @@ fn open_read(rt: &HostRuntime, path: &[u8]) -> io::Result<File> {
 pub fn opened(rt: &HostRuntime, path: &[u8]) -> Option<File>
     ensures { IfSome result (λ file. is_apart (file_raw_fd file) ≡ true) }
 {
-    let mut taken = 0u64;
-    while taken < 5 {
+    for _ in 0..5 {
         match open_read(rt, path) {
             Ok(file) => {
-                let descriptor = file.as_raw_fd();
-                if descriptor > 3 {
+                if file.as_raw_fd() > 3 {
                     return Some(file);
                 }
                 file.into_raw_fd();
@@ -115,27 +107,21 @@ pub fn opened(rt: &HostRuntime, path: &[u8]) -> Option<File>
                 return None;
             }
         }
-        taken += 1;
     }
     complain_of(rt, path, b": cannot be opened\n");
     None
 }
 
-// What a look finds: by whether a link was read there, whether the system said that something else is there,
-// and whether it said that nothing is.
-fn look_of(is_link: bool, is_other: bool, is_none: bool) -> Look
-    ensures { result ≡ look_of is_link is_other is_none }
+// Whether a name is free, by what the system answered to a look at it, or why that is not known. It is free only where
+// the system said that nothing is there.
+fn look_of(answer: io::Result<Metadata>) -> io::Result<bool>
+    ensures { result ≡ look_of answer }
 {
-    if is_link {
-        return Look::Taken;
+    match answer {
+        Ok(_) => Ok(false),
+        Err(reason) if reason.kind() == ErrorKind::NotFound => Ok(true),
+        Err(reason) => Err(reason),
     }
-    if is_other {
-        return Look::Taken;
-    }
-    if is_none {
-        return Look::Free;
-    }
-    Look::Unknown
 }
 
 fn look_at(rt: &HostRuntime, path: &[u8]) -> io::Result<Metadata> {
@@ -145,21 +131,14 @@ fn look_at(rt: &HostRuntime, path: &[u8]) -> io::Result<Metadata> {
 // Whether nothing has this name yet, not even a link to nothing: a link is looked at itself. What stands in the way
 // is said.
 pub fn is_free(rt: &HostRuntime, path: &[u8]) -> bool {
-    let found = look_at(rt, path);
-    let look = match &found {
-        Ok(there) => look_of(there.is_symlink(), !there.is_symlink(), false),
-        Err(reason) => look_of(false, false, reason.kind() == ErrorKind::NotFound),
-    };
-    match look {
-        Look::Free => true,
-        Look::Taken => {
+    match look_of(look_at(rt, path)) {
+        Ok(true) => true,
+        Ok(false) => {
             complain_of(rt, path, b": File exists\n");
             false
         }
-        Look::Unknown => {
-            if let Err(reason) = found {
-                failed_at(rt, path, reason);
-            }
+        Err(reason) => {
+            failed_at(rt, path, reason);
             false
         }
     }
@@ -172,39 +151,27 @@ fn create(rt: &HostRuntime, path: &[u8]) -> io::Result<File> {
         .open(rt, text_of(path)?)
 }
 
-// Makes a file beside the place of this one, under the first such name that is not taken. Answers it, or why there
-// is none, which is that something exists where all of them are taken, and gives the number in its name.
-pub fn make_part(rt: &HostRuntime, path: &[u8], number: &mut u64) -> io::Result<File> {
-    let mut name = [0u8; LONGEST];
-    let mut tried = 0u64;
-    while tried < 1000 {
-        *number = tried;
-        let count = part_name(path, tried, &mut name);
-        match create(rt, &name[..count]) {
-            Ok(file) => return Ok(file),
-            Err(reason) => {
-                if reason.kind() != ErrorKind::AlreadyExists {
-                    return Err(reason);
-                }
-            }
+// Makes a file beside the place of this one, under the first such name that is not taken. Answers it with the number
+// in its name, or why there is none, which is that something exists where all of them are taken.
+pub fn make_part(rt: &HostRuntime, path: &[u8]) -> io::Result<(File, u64)> {
+    for number in 0..1000 {
+        match create(rt, part_name::<LONGEST>(path, number).as_bytes()) {
+            Ok(file) => return Ok((file, number)),
+            Err(reason) if reason.kind() == ErrorKind::AlreadyExists => {}
+            Err(reason) => return Err(reason),
         }
-        tried += 1;
     }
     Err(io::Error::from(ErrorKind::AlreadyExists))
 }
 
 // Names the parts of files that were there before the part of this number was made beside the place of this file.
 pub fn note_parts(rt: &HostRuntime, path: &[u8], number: u64) {
-    let mut name = [0u8; LONGEST];
-    let mut old = 0u64;
-    while old < number {
-        let count = part_name(path, old, &mut name);
+    for old in 0..number {
         note(
             rt,
-            &name[..count],
+            part_name::<LONGEST>(path, old).as_bytes(),
             b": a rescue that was killed left this file, unless one is running; if none is, remove it\n",
         );
-        old += 1;
     }
 }
 
@@ -226,22 +193,27 @@ fn rename(rt: &HostRuntime, name: &[u8], path: &[u8]) -> io::Result<()> {
     fs::rename(rt, text_of(name)?, text_of(path)?)
 }
 
-// Gives the file that was made its own name, once it is on the disk. Answers whether it has it.
-pub fn named(rt: &HostRuntime, file: File, name: &[u8], path: &[u8]) -> bool {
-    if let Err(reason) = file.sync_all() {
-        failed_at(rt, path, reason);
-        return false;
-    }
+fn try_named(rt: &HostRuntime, file: File, name: &[u8], path: &[u8]) -> io::Result<bool> {
+    file.sync_all()?;
     drop(file);
     if !is_free(rt, path) {
-        return false;
+        return Ok(false);
     }
-    if let Err(reason) = rename(rt, name, path) {
-        failed_at(rt, path, reason);
-        return false;
-    }
+    rename(rt, name, path)?;
     folder_settled(rt, path);
-    true
+    Ok(true)
+}
+
+// Gives the file that was made its own name, once it is on the disk. Answers whether it has it. The answer is matched,
+// here and above: its other arm says what failed, which a closure would say no more plainly.
+pub fn named(rt: &HostRuntime, file: File, name: &[u8], path: &[u8]) -> bool {
+    match try_named(rt, file, name, path) {
+        Ok(is_named) => is_named,
+        Err(reason) => {
+            failed_at(rt, path, reason);
+            false
+        }
+    }
 }
 
 // Removes the file that was made, as far as the system does that.

@@ -1,5 +1,5 @@
 -- The paths of files, as bytes.
-use Rattle.std.specs.Prelude.{◌≡◌, cond, List, ◌++◌, ℕ, zero, suc, ◌-◌, eqb, length, take, get_or, replicate, slice_index_or}
+use Rattle.std.specs.Prelude.{◌≡◌, ◌≢◌, ◌<◌, cond, List, ◌++◌, ℕ, zero, suc, ◌-◌, eqb, length, take, get_or, replicate, slice_index, slice_index_or}
 use Rattle.io.specs.Counts.{IsPrefixLen}
 use Rattle.text_put.specs.Text.{ascii, decimal}
 
@@ -20,6 +20,10 @@ pub record IsCPath (path result : List ℕ) : Type 0 where
 unfoldable pub slash_within : ℕ → List ℕ → ℕ
 slash_within zero path = 0
 slash_within (suc k) path = cond (eqb (get_or path k 0) 47) (suc k) (slash_within k path)
+
+-- where the last slash of a path lies
+abbrev pub IsLastSlash : List ℕ → ℕ → Type 0
+IsLastSlash path last = (last < length path) × (slice_index path last ≡ 47) × ((k : ℕ) → last < k → k < length path → slice_index path k ≢ 47)
 
 -- a path's folder: up to its last slash, with it
 abbrev pub folder_of : List ℕ → List ℕ

@@ -2,46 +2,45 @@
 // It knows nothing of what the system does with a name.
 #![tactic(auto)]
 
-ghost use Rattle.text_put.specs.Text.{Puts};
-ghost use Rattle.io_paths.specs.Paths.{IsCPath, CountsFolder, part_of};
+ghost use Rattle.std.specs.Prelude.{◌≡◌, ◌≢◌, [], slice_index, EachIndex, MatchOption};
+ghost use Rattle.text_put.specs.Text.{after};
+ghost use Rattle.io_paths.specs.Paths.{IsCPath, IsLastSlash, CountsFolder, part_of};
 
-use text_put::{put, put_numbered};
+use text_put::Text;
 
 // A path as C takes it: up to 4,095 bytes, and zeros behind them.
 pub fn c_path(path: &[u8]) -> [u8; 4096]
     ensures { IsCPath path.now result }
 {
     let mut copied = [0u8; 4096];
-    let mut i = 0usize;
-    while i < 4095 && i < path.len() {
-        copied[i] = path[i];
-        i += 1;
-    }
+    let count = path.len().min(4095);
+    copied[..count].copy_from_slice(&path[..count]);
     copied
 }
 
+// The place of a path's last slash, if it has one.
+fn last_slash(path: &[u8]) -> Option<usize>
+    ensures { MatchOption result (EachIndex path.now (λ k. slice_index path.now k ≢ 47)) (IsLastSlash path.now) }
+{
+    path.iter().rposition(|b| *b == b'/')
+}
+
 // How many bytes of a path name its folder: up to its last slash, with it.
-#[tactic(auto, unfolding(crate::specs::Paths::slash_within), using(crate::proofs::Slashes::at_slash, crate::proofs::Slashes::at_other))]
+#[tactic(auto, using(crate::proofs::Slashes::counts_folder))]
 pub fn folder_of(path: &[u8]) -> usize
     ensures { CountsFolder path.now result }
 {
-    let mut end = 0usize;
-    let mut i = 0usize;
-    while i < path.len() {
-        i += 1;
-        if path[i - 1] == b'/' {
-            end = i;
-        }
-    }
-    end
+    last_slash(path).map_or(0, |last| last + 1)
 }
 
 // The name under which a file is made, in the folder of its own, as much of it as there is room for.
-pub fn part_name(path: &[u8], number: u64, name: &mut [u8]) -> usize
-    ensures { Puts (part_of path.now number) name.old 0 result name.new }
+#[tactic(auto, using(text_put::proofs::Pieces::pieces))]
+pub fn part_name<const ROOM: usize>(path: &[u8], number: u64) -> Text<ROOM>
+    ensures { result ≡ after ROOM [] (part_of path.now number) }
 {
-    let folder = folder_of(path);
-    let placed = put(&path[..folder], name, 0);
-    let numbered = put_numbered(b"tns-rescue-", number, name, placed);
-    put(b".part", name, numbered)
+    let mut name = Text::new();
+    name.put(&path[..folder_of(path)]);
+    name.put_numbered(b"tns-rescue-", number);
+    name.put(b".part");
+    name
 }

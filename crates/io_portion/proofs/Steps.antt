@@ -1,31 +1,56 @@
--- Laws of one block that is put: which number it may have, and that what was written to a buffer of zeros is the block.
+-- What is put of a portion, by its answer: where it is accepted its records, which stand in it, or the block, which was written to a buffer of zeros.
 use mathlib.Core.Path.{◌≡◌, sym, ◌∙◌, ap}
 use mathlib.Core.List.{List, ◌++◌, append-nil}
 use Prim.Native.Nat.{ℕ, ◌≤◌, ◌<◌}
-use native.Mathlib.Decide.{dec_lt}
 use native.Mathlib.Omega.{arith}
 use lib.ListN.{length, take, length-take, drop_of_length-le}
-use Rattle.check_verdicts.specs.Verdicts.{accepted, unless_refused, on_accepted}
-use Rattle.check_verdicts.proofs.Verdicts.{not_accepted}
-use Rattle.block_parts.specs.Parts.{count_in}
-use Rattle.block_check.specs.Blocks.{write_verdict}
+use Rattle.std.specs.Prelude.{Ok, Err}
+use Rattle.check_verdicts.specs.Verdicts.{Verdict, accepted, refused, unless_refused, on_accepted}
+use Rattle.block_parts.specs.Parts.{count_in, count_of}
+use Rattle.block_check.specs.Blocks.{read_verdict, write_verdict}
+use Rattle.block_check.specs.Told.{block_fault}
+use Rattle.block_check.specs.declared.check.BlockRefusal.{BlockRefusal}
 use Rattle.block_buffer.specs.Buffers.{laid_over}
 use Rattle.block_parts.proofs.Laid.{block_length}
-use Rattle.block_check.proofs.Verdicts.{accepted_block, some_bytes, accepted_too, block_past, written_block}
+use Rattle.block_check.proofs.Verdicts.{accepted_too, refused_too, written_block, Given, given_block}
 use Rattle.block_buffer.proofs.Buffers.{as_told}
-use Rattle.io_portion.specs.OnePortion.{verdict_of}
-use Rattle.io_portion.specs.declared.Way.{Way}
-use Rattle.io_portion.specs.declared.Way.TheVariants.{ToRecords, ToBlocks}
+use Rattle.text_put.specs.Text.{after}
+use Rattle.io_portion.specs.OnePortion.{PutsPortion}
 
--- a block that is accepted is not past the last
-pub in_range : (way : Way) (number : ℕ) (portion given : List ℕ) → 0 < length portion → verdict_of way number portion ≡ accepted given → number ≤ 65535
-in_range ToRecords number portion given some e = (accepted_block number (take 512 portion) given (sym (some_bytes number portion some) ∙ e)).in_range
-in_range ToBlocks number portion given some e = elim (dec_lt 65535 number) [
-  | yes over ↦ not_accepted (sym (block_past number portion some over) ∙ e)
-  | no within ↦ omega arith
-]
+-- what an accepted block gives was put
+pub puts : (room : ℕ) (verdict : Verdict (List ℕ)) (given found left : List ℕ) → verdict ≡ accepted given → left ≡ after room found given → PutsPortion verdict room found left (Ok tt)
+puts room verdict given found left e put =
+    record {
+      answer = ap (on_accepted (λ given. tt)) (sym e);
+      bytes = put ∙ ap (λ (v : Verdict (List ℕ)). unless_refused v (after room found) found) (sym e);
+    }
 
--- ---- a block that is written
+-- so it was, where nothing is refused; and where something is, nothing was put
+pub record Took (room : ℕ) (verdict : Verdict (List ℕ)) (found left : List ℕ) : Type 0 where
+  pub given : List ℕ
+  pub accepts : verdict ≡ accepted given
+  pub put : left ≡ after room found given
+
+module _ (room : ℕ) (verdict : Verdict (List ℕ)) (found left : List ℕ) where
+  pub took : PutsPortion verdict room found left (Ok tt) → Took room verdict found left
+  took done =
+      let from = accepted_too (λ given. tt) verdict tt done.answer in
+      record {
+        given = from.of;
+        accepts = from.verdict;
+        put = done.bytes ∙ ap (λ (v : Verdict (List ℕ)). unless_refused v (after room found) found) from.verdict;
+      }
+
+  pub refuses : (why : BlockRefusal) → PutsPortion verdict room found left (Err why) → (verdict ≡ refused (block_fault why)) × (left ≡ found)
+  refuses why done =
+      let is = refused_too (λ given. tt) verdict (block_fault why) done.answer in
+      (is, done.bytes ∙ ap (λ (v : Verdict (List ℕ)). unless_refused v (after room found) found) is)
+
+-- a portion that is counted is a block whose records are so many
+pub its_records : (number : ℕ) (portion : List ℕ) (count : ℕ) → 0 < length portion → accepted count ≡ on_accepted count_of (read_verdict number portion) → Given number portion count
+its_records number portion count some e =
+    let from = accepted_too count_of (read_verdict number portion) count e in
+    (given_block number portion count from.of from.verdict some from.made_of).0
 
 pub record WrittenBlock (number : ℕ) (records left : List ℕ) : Type 0 where
   pub took : write_verdict number records ≡ accepted left

@@ -2,10 +2,10 @@
 // each second from the second one on. And how a file is named where something is said of it meanwhile.
 // How high a percent is, and from when on one is shown, is promised; that it is shown, once a second and at a
 // terminal alone, is tested.
-#![tactic(auto)]
+#![tactic(auto, using(text_put::proofs::Pieces::pieces))]
 
 ghost use Rattle.std.specs.Prelude.{◌≡◌};
-ghost use Rattle.text_put.specs.Text.{Puts};
+ghost use Rattle.text_put.specs.Text.{after};
 ghost use Rattle.io_progress.specs.Named.{name_text};
 ghost use Rattle.io_progress.specs.Percents.{percent_of, in_second};
 
@@ -13,12 +13,15 @@ use std::fs::File;
 use std::io;
 use std::io::{IsTerminal, Seek, SeekFrom};
 use std::time::{SystemTime, UNIX_EPOCH};
-use text_put::{put, put_numbered};
+use text_put::Text;
+
+// Back to the line's start, blanks over what stands there, and back again.
+const ERASING: &[u8] = b"\r           \r";
 
 // What is known of a run: whether its progress is shown, whether its report goes to a terminal too, how large
 // its file is, the second in which it began and the last that was seen, and whether something stands on the
 // terminal.
-#[derive(Clone, Copy)]
+#[derive(Clone, Copy, Debug, PartialEq, Eq)]
 pub struct Progress {
     pub is_terminal: bool,
     pub is_shared: bool,
@@ -28,25 +31,15 @@ pub struct Progress {
     pub is_shown: bool,
 }
 
-// A number of the system's, or 0 where it has none.
-fn known(answer: io::Result<u64>) -> u64 {
-    match answer {
-        Ok(number) => number,
-        Err(_) => 0,
-    }
-}
-
-// The clock, as the system answers.
+// The clock, as the system answers; 0 where it stands before its own beginning.
 fn clock(rt: &HostRuntime) -> io::Result<u64> {
-    match SystemTime::now(rt)?.duration_since(UNIX_EPOCH) {
-        Ok(gone) => Ok(gone.as_secs()),
-        Err(_) => Ok(0),
-    }
+    let gone = SystemTime::now(rt)?.duration_since(UNIX_EPOCH);
+    Ok(gone.map_or(0, |gone| gone.as_secs()))
 }
 
-// The seconds of the clock.
+// The seconds of the clock, or 0 where the system has none: then no second is another one, and nothing is shown.
 pub fn seconds(rt: &HostRuntime) -> u64 {
-    known(clock(rt))
+    clock(rt).unwrap_or(0)
 }
 
 // A run that begins with a file.
@@ -59,7 +52,7 @@ pub fn of_file(rt: &HostRuntime, input: &File) -> Progress {
     Progress {
         is_terminal,
         is_shared,
-        size: known(end),
+        size: end.unwrap_or(0),
         began: now,
         second: now,
         is_shown: false,
@@ -67,10 +60,10 @@ pub fn of_file(rt: &HostRuntime, input: &File) -> Progress {
 }
 
 fn show(rt: &HostRuntime, percent: u64) {
-    let mut text = [0u8; 32];
-    let numbered = put_numbered(b"\rtns: ", percent, &mut text, 0);
-    let count = put(b"%", &mut text, numbered);
-    let _ = rt.stderr().write_all(&text[..count]);
+    let mut text = Text::<32>::new();
+    text.put_numbered(b"\rtns: ", percent);
+    text.put(b"%");
+    let _ = rt.stderr().write_all(text.as_bytes());
 }
 
 // The part of both readings that is done, in percent: a file of so many bytes has a block in each 512, and each is
@@ -86,12 +79,9 @@ fn in_second(progress: Progress, now: u64) -> Progress
     ensures { result ≡ in_second progress now }
 {
     Progress {
-        is_terminal: progress.is_terminal,
-        is_shared: progress.is_shared,
-        size: progress.size,
-        began: progress.began,
         second: now,
-        is_shown: now > progress.began && now - progress.began > 1,
+        is_shown: now.saturating_sub(progress.began) > 1,
+        ..progress
     }
 }
 
@@ -114,7 +104,7 @@ pub fn shown(rt: &HostRuntime, progress: Progress, done: u64) -> Progress {
 // What stands on the terminal is gone.
 pub fn erase(rt: &HostRuntime, progress: Progress) {
     if progress.is_shown {
-        let _ = rt.stderr().write_all(b"\r           \r");
+        let _ = rt.stderr().write_all(ERASING);
     }
 }
 
@@ -127,14 +117,12 @@ pub fn give_way(rt: &HostRuntime, progress: Progress) {
 }
 
 // Puts how a file is named where something is said of it, in the place of what stands on the terminal.
-pub fn put_name(progress: Progress, name: &[u8], text: &mut [u8]) -> usize
-    ensures { Puts (name_text progress.is_shown name.now) text.old 0 result text.new }
+pub fn put_name<const ROOM: usize>(progress: Progress, name: &[u8], out: &mut Text<ROOM>)
+    ensures { out.new ≡ after ROOM out.old (name_text progress.is_shown name.now) }
 {
     if progress.is_shown {
-        let erased = put(b"\r           \r", text, 0);
-        let begun = put(b"tns: ", text, erased);
-        return put(name, text, begun);
+        out.put(ERASING);
     }
-    let begun = put(b"tns: ", text, 0);
-    put(name, text, begun)
+    out.put(b"tns: ");
+    out.put(name);
 }

@@ -9,8 +9,7 @@ at_start = record { place = 0; kept = 0; held = 0; reads = 0; goes_on = true; is
 
 -- as it ends here, well, that is at the file's end and with nothing failed, or not: what was found stays, and nothing more is read
 abbrev pub ended_as : Bool → Standing → Standing
-ended_as well standing =
-    record { place = standing.place; kept = standing.kept; held = standing.held; reads = standing.reads; goes_on = false; is_well = well }
+ended_as well standing = record standing { goes_on = false; is_well = well }
 
 -- after a write: where it stood, or if it could not be written, the end, which is not well
 abbrev pub after_write : Bool → Standing → Standing
@@ -18,15 +17,7 @@ after_write written standing = cond written standing (ended_as false standing)
 
 -- with one read more made
 abbrev pub one_read : Standing → Standing
-one_read standing =
-    record {
-      place = standing.place;
-      kept = standing.kept;
-      held = standing.held;
-      reads = standing.reads + 1;
-      goes_on = standing.goes_on;
-      is_well = standing.is_well;
-    }
+one_read standing = record standing { reads = standing.reads + 1 }
 
 -- after a read: where none is left to make, a reading that goes on has not come to the file's end; it ends, and is not well
 abbrev pub after_read : Standing → Standing

@@ -5,20 +5,8 @@
 // more was read than the piece has is what the read before it promises (io_streams).
 #![tactic(auto)]
 
-ghost use Rattle.std.specs.Prelude.{◌≡◌, ◌+◌, ◌≤◌, ◌<◌, length, take, drop};
+ghost use Rattle.std.specs.Prelude.{◌≡◌, ◌≤◌, ◌<◌, length};
 ghost use Rattle.io_rest.specs.Rest.{whole_bytes, KeepsRest};
-
-// Moves `count` bytes from `from` on to the start of `piece`.
-fn keep(piece: &mut [u8], from: usize, count: usize)
-    requires { from + count ≤ length piece.old }
-    ensures { take count piece.new ≡ take count (drop from piece.old) }
-{
-    let mut i = 0;
-    while i < count {
-        piece[i] = piece[from + i];
-        i += 1;
-    }
-}
 
 // How many of the first `read` bytes are whole units of `size` bytes.
 pub fn whole_bytes(size: usize, read: usize) -> usize
@@ -35,7 +23,6 @@ pub fn keep_rest(piece: &mut [u8], size: usize, read: usize) -> usize
     ensures { KeepsRest size read piece.old piece.new result }
 {
     let whole = whole_bytes(size, read);
-    let held = read - whole;
-    keep(piece, whole, held);
-    held
+    piece.copy_within(whole..read, 0);
+    read - whole
 }

@@ -1,13 +1,13 @@
 -- What a read into a piece gives, and how many reads a program makes at most.
-use Rattle.std.specs.Prelude.{◌≡◌, Bool, true, false, ◌&&◌, List, ℕ, zero, suc, ◌+◌, ◌^◌, ◌≤◌, ◌<◌, leb, length, take}
+use Rattle.std.specs.Prelude.{◌≡◌, Bool, ◌&&◌, List, ℕ, zero, suc, Result, Ok, Err, ◌+◌, ◌^◌, ◌≤◌, ◌<◌, leb, length, take}
 use Rattle.io_streams.specs.declared.Read.{Read}
 use Rattle.io_streams.specs.declared.Read.TheVariants.{Bytes, End, Failed}
 
--- by whether the system's read failed, and by how many bytes it gave: none are given at the end alone
-unfoldable pub read_of : Bool → ℕ → Read
-read_of true count = Failed
-read_of false zero = End
-read_of false (suc more) = Bytes (suc more)
+-- by what the system answered: how many bytes it gave, none at the end alone, or that it failed
+abbrev pub read_of : {E : Type 0} → Result ℕ E → Read
+read_of (Err reason) = Failed
+read_of (Ok zero) = End
+read_of (Ok (suc more)) = Bytes (suc more)
 
 -- So many reads that no run makes them all: at one in each microsecond they take 285 years.
 abbrev pub most_reads : ℕ

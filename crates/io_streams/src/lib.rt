@@ -18,8 +18,9 @@ use std::{fs, io};
 // The descriptor that the launcher opens for a program to say that something was refused, or failed: 3.
 const LAUNCHER: &str = "/proc/self/fd/3";
 
-// What one read gives: bytes, one at least; the end of input; or nothing, since it failed.
-#[derive(Clone, Copy)]
+// What one read gives: bytes, one at least; the end of input; or nothing, since it failed. It has three cases, each
+// with its own name: an `io::Result` has a count of 0 for the end, and carries the reason, which is said at once.
+#[derive(Clone, Copy, Debug, PartialEq, Eq)]
 pub enum Read {
     Bytes(usize),
     End,
@@ -28,10 +29,9 @@ pub enum Read {
 
 // The words of a reason, as the system has them: std puts the system's number behind them.
 fn words(reason: &str) -> &str {
-    match reason.split_once(" (os error ") {
-        Some((words, _)) => words,
-        None => reason,
-    }
+    reason
+        .split_once(" (os error ")
+        .map_or(reason, |(words, _)| words)
 }
 
 // Says what failed, and the system's reason, and that the launcher's status is 2.
@@ -74,17 +74,15 @@ pub fn to_launcher(rt: &HostRuntime, text: &[u8]) {
     let _ = try_to_launcher(rt, text);
 }
 
-// What a read gives, by whether the system's failed and how many bytes that gave.
-fn read_of(is_failed: bool, count: usize) -> Read
-    ensures { result ≡ read_of is_failed count }
+// What a read gives, by what the system answered.
+fn read_of(answer: &io::Result<usize>) -> Read
+    ensures { result ≡ read_of answer.now }
 {
-    if is_failed {
-        return Read::Failed;
+    match answer {
+        Ok(0) => Read::End,
+        Ok(count) => Read::Bytes(*count),
+        Err(_) => Read::Failed,
     }
-    if count == 0 {
-        return Read::End;
-    }
-    Read::Bytes(count)
 }
 
 // One read of an input, into `piece` after its first `held` bytes, which it leaves alone. A failure
@@ -101,13 +99,12 @@ pub fn read_from<R: io::Read>(
     if held >= piece.len() {
         return Read::End;
     }
-    match input.read(&mut piece[held..]) {
-        Ok(count) => read_of(false, count),
-        Err(reason) => {
-            failed(rt, what, reason);
-            read_of(true, 0)
-        }
+    let answer = input.read(&mut piece[held..]);
+    let got = read_of(&answer);
+    if let Err(reason) = answer {
+        failed(rt, what, reason);
     }
+    got
 }
 
 // The same of standard input.
@@ -132,8 +129,8 @@ pub fn complain_of_reads(rt: &HostRuntime) {
 }
 
 // Writes all of a text to an output, and answers whether it could. A failure is said at once, of what
-// `what` names. It has no promise: no contract can say what a call writes, nor whether the system takes
-// it.
+// `what` names; a closure would say it no more plainly than the match. It has no promise: no contract can say what a call writes, nor
+// whether the system takes it.
 pub fn write_to<W: Write>(rt: &HostRuntime, output: &mut W, what: &[u8], text: &[u8]) -> bool {
     match output.write_all(text) {
         Ok(()) => true,

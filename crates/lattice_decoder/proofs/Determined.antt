@@ -1,8 +1,8 @@
--- Any two results that a contract allows for one input coincide: the law of `law_results`, cited for each public function of this crate. The logic has
+-- Any two results that a contract allows for one input coincide: the law of `law_results`, cited for the decoder's `line`. The logic has
 -- one NaN, so of a number that is a NaN the bits are left open.
 use Rattle.law_results.proofs.Determined.{Determined, itself}
-use Rattle.lattice_decoder.proofs.line_decoded.Kinds as line-decoded-kinds
-use Rattle.lattice_decoder.proofs.line_decoded.Reads as line-decoded-reads
+use Rattle.lattice_decoder.proofs.DecoderLattice.line.Kinds as line-kinds
+use Rattle.lattice_decoder.proofs.DecoderLattice.line.Reads as line-reads
 
-line_decoded_lem : Determined 0 line-decoded-kinds.ps line-decoded-kinds.r line-decoded-reads.Post
-line_decoded_lem κs a x y s t p q = itself p q
+decoder_line : Determined 0 line-kinds.ps line-kinds.r line-reads.Post
+decoder_line κs a x y s t p q = itself p q

@@ -1,7 +1,8 @@
 -- docs/RULES.md, "Lattices", the decoder's: one line, with eight states. Every product, sum and difference is an f32's and rounds once.
-use Rattle.std.specs.Prelude.{List, ℕ, zero, suc, get_or, set, Float}
+use Rattle.std.specs.Prelude.{List, ℕ, zero, suc, get_or, set, refl, Float}
 use Rattle.std.specs.Float.{nan}
 use Rattle.law_rounding.specs.Floats.{◌⊕◌, ◌⊖◌, ◌⊗◌}
+use Rattle.lattice_lines.specs.Lattice.{Idle}
 use Rattle.lattice_lines.specs.declared.Passed.{Passed}
 
 -- a line on its way, t, with the states as they are
@@ -26,3 +27,8 @@ line_decoded q zero states line = passing line states
 line_decoded q (suc k) states line =
     let p = stages_below q k (passing (line ⊖ get_or q k nan ⊗ get_or states k nan) states) in
     passing p.t (set p.states 0 p.t)
+
+-- the law of a lattice
+pub decoder_idle : Idle line_decoded
+unfolding line_decoded
+decoder_idle q states line = refl

@@ -4,25 +4,31 @@
 
 ghost use Rattle.std.specs.Prelude.{◌≡◌, ◌<◌, ◌≤◌};
 ghost use Rattle.lattice_decoder.specs.DecoderLattice.{line_decoded};
+ghost use Rattle.lattice_decoder.specs.DecoderLattice.{decoder_idle};
 
-use lattice_lines::Passed;
+use lattice_lines::{Lattice, Passed};
 
-// One line through a filter. It requires an order of 1 to 8: lattice_bands calls it for each of them, by a
-// literal.
-pub fn line_decoded(q: [f32; 8], order: usize, states: [f32; 8], line: f32) -> Passed
-    requires { (0 < order) × (order ≤ 8) }
-    ensures { result ≡ line_decoded q order states line }
-{
-    let last = order - 1;
-    let mut state = states;
-    let mut t = line - q[last] * state[last];
-    let mut k = last;
-    while k > 0 {
-        k -= 1;
-        let old = state[k];
-        t = t - q[k] * old;
-        state[k + 1] = q[k] * t + old;
+// The decoder's lattice.
+#[derive(Clone, Copy, Debug, PartialEq, Eq)]
+pub struct Decoder;
+
+impl Lattice for Decoder {
+    ghost passed = { line_decoded };
+
+    ghost idle = { decoder_idle };
+
+    #[tactic(auto, unfolding(crate::specs::DecoderLattice::line_decoded, crate::specs::DecoderLattice::stages_below, crate::specs::DecoderLattice::stage_down))]
+    fn line(q: [f32; 8], order: usize, states: [f32; 8], line: f32) -> Passed {
+        let last = order - 1;
+        let mut state = states;
+        let mut t = line - q[last] * state[last];
+        // each stage takes the state of its own place and leaves one at the next
+        for k in (0..last).rev() {
+            let old = state[k];
+            t = t - q[k] * old;
+            state[k + 1] = q[k] * t + old;
+        }
+        state[0] = t;
+        Passed { t, states: state }
     }
-    state[0] = t;
-    Passed { t, states: state }
 }

@@ -1,8 +1,8 @@
--- Any two results that a contract allows for one input coincide: the law of `law_results`, cited for each public function of this crate. The logic has
+-- Any two results that a contract allows for one input coincide: the law of `law_results`, cited for the encoder's `line`. The logic has
 -- one NaN, so of a number that is a NaN the bits are left open.
 use Rattle.law_results.proofs.Determined.{Determined, itself}
-use Rattle.lattice_encoder.proofs.line_encoded.Kinds as line-encoded-kinds
-use Rattle.lattice_encoder.proofs.line_encoded.Reads as line-encoded-reads
+use Rattle.lattice_encoder.proofs.EncoderLattice.line.Kinds as line-kinds
+use Rattle.lattice_encoder.proofs.EncoderLattice.line.Reads as line-reads
 
-line_encoded_lem : Determined 0 line-encoded-kinds.ps line-encoded-kinds.r line-encoded-reads.Post
-line_encoded_lem κs a x y s t p q = itself p q
+encoder_line : Determined 0 line-kinds.ps line-kinds.r line-reads.Post
+encoder_line κs a x y s t p q = itself p q

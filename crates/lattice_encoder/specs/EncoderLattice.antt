@@ -1,7 +1,8 @@
 -- docs/RULES.md, "Lattices", the encoder's: one line, with eight states. Every product and sum is an f32's and rounds once.
-use Rattle.std.specs.Prelude.{List, ℕ, zero, suc, get_or, set, Float}
+use Rattle.std.specs.Prelude.{List, ℕ, zero, suc, get_or, set, refl, Float}
 use Rattle.std.specs.Float.{nan}
 use Rattle.law_rounding.specs.Floats.{◌⊕◌, ◌⊗◌}
+use Rattle.lattice_lines.specs.Lattice.{Idle}
 use Rattle.lattice_lines.specs.declared.Passed.{Passed}
 use Rattle.lattice_encoder.specs.declared.Passing.{Passing}
 
@@ -27,3 +28,8 @@ line_encoded q zero states line = record { t = line; states = states }
 line_encoded q (suc k) states line =
     let p = stages_to q k (entering line states) in
     record { t = p.t ⊕ get_or q k nan ⊗ get_or p.states k nan; states = set p.states k p.b }
+
+-- the law of a lattice
+pub encoder_idle : Idle line_encoded
+unfolding line_encoded
+encoder_idle q states line = refl

@@ -3,32 +3,33 @@
 #![tactic(auto)]
 
 ghost use Rattle.std.specs.Prelude.{◌≡◌, ◌<◌, ◌≤◌};
-ghost use Rattle.lattice_encoder.specs.EncoderLattice.{stage_up, stages_to, entering, line_encoded};
+ghost use Rattle.lattice_encoder.specs.EncoderLattice.{stage_up, stages_to, entering, line_encoded, encoder_idle};
 
-use lattice_lines::Passed;
+use lattice_lines::{Lattice, Passed};
 
 // A line on its way: t and b, with the states as they are.
-#[derive(Clone, Copy)]
+#[derive(Clone, Copy, Debug, PartialEq)]
 pub struct Passing {
     pub t: f32,
     pub b: f32,
     pub states: [f32; 8],
 }
 
+#[tactic(auto, unfolding(crate::specs::EncoderLattice::stage_up))]
 fn stage_up(p: Passing, q: f32, k: usize) -> Passing
     requires { k < 8 }
     ensures { result ≡ stage_up q k p }
 {
     let old = p.states[k];
-    let t = p.t;
-    let b = p.b;
-    let mut next = p;
-    next.states[k] = b;
-    next.b = q * t + old;
-    next.t = t + q * old;
-    next
+    let mut states = p.states;
+    states[k] = p.b;
+    // b before t: the other way round the loops of orders 2 to 6 take an instruction or two more.
+    let b = q * p.t + old;
+    let t = p.t + q * old;
+    Passing { t, b, states }
 }
 
+#[tactic(auto, unfolding(crate::specs::EncoderLattice::stages_to))]
 fn stages_up(q: [f32; 8], stages: usize, line: f32, states: [f32; 8]) -> Passing
     requires { stages < 8 }
     ensures { result ≡ stages_to q stages (entering line states) }
@@ -38,23 +39,29 @@ fn stages_up(q: [f32; 8], stages: usize, line: f32, states: [f32; 8]) -> Passing
         b: line,
         states,
     };
+    // by number, as the definition has them: a stage takes the coefficient and the state of its place
     for k in 0..stages {
-        let next = stage_up(p, q[k], k);
-        p = next;
+        p = stage_up(p, q[k], k);
     }
     p
 }
 
-// One line through a filter. It requires an order of 1 to 8: lattice_bands calls it for each of them, by a
-// literal.
-pub fn line_encoded(q: [f32; 8], order: usize, states: [f32; 8], line: f32) -> Passed
-    requires { (0 < order) × (order ≤ 8) }
-    ensures { result ≡ line_encoded q order states line }
-{
-    let last = order - 1;
-    let p = stages_up(q, last, line, states);
-    let mut after = p.states;
-    let t = p.t + q[last] * after[last];
-    after[last] = p.b;
-    Passed { t, states: after }
+// The encoder's lattice.
+#[derive(Clone, Copy, Debug, PartialEq, Eq)]
+pub struct Encoder;
+
+impl Lattice for Encoder {
+    ghost passed = { line_encoded };
+
+    ghost idle = { encoder_idle };
+
+    #[tactic(auto, unfolding(crate::specs::EncoderLattice::line_encoded))]
+    fn line(q: [f32; 8], order: usize, states: [f32; 8], line: f32) -> Passed {
+        let last = order - 1;
+        let p = stages_up(q, last, line, states);
+        let mut after = p.states;
+        let t = p.t + q[last] * after[last];
+        after[last] = p.b;
+        Passed { t, states: after }
+    }
 }

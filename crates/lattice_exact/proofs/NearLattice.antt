@@ -8,13 +8,12 @@ use Prim.Native.Nat.{ℕ, zero, suc, ◌+◌, ◌-◌, ◌*◌, ◌^◌, ◌≤�
 use native.Mathlib.Decide.{ℕ_discrete}
 use native.Mathlib.Nat.{le_of_suc-le-suc, not-suc-le-zero, mul-le-mul, mul-le-mul_right}
 use native.Mathlib.Omega.{arith}
-use borrow.Author.Tests.{le-ltb, lt-ltb}
-use lib.Dec.{T, lit<, leb→le}
+use Rattle.std.proofs.lemmas.Int.{ints}
+use lib.Dec.{T, lit<}
 use lib.Pow.{pow-add, pow_mono}
 use lib.ListN.{length, get_or, set, length-set, get_or-replicate, get_or-map}
 use lib.Seq.{get_or-set_same, get_or-set_other}
 use lib.IntN.{ℤ, pos, negsuc, neg_ℤ, nat_abs, ◌+ℤ◌, ◌*ℤ◌, +ℤ_assoc}
-use lib.Signed.{◌≤ℤ◌}
 use lib.Ieee.{Float, nan, binary32, add, mul, fits, of_bits}
 use Rattle.law_rounding.specs.Units.{in_units, power_in_units, AtMost, WithinOf}
 use Rattle.law_rounding.proofs.Steps.{Tracks, tracks_wider, grown, onto, plus}
@@ -198,22 +197,9 @@ from_lowest m h e small =
           (ap (λ (z : ℤ). power_in_units 357 z) (nearness_shifts (pos h) lowest) ∙ ap (λ (z : ℤ). 2 ^ nat_abs z) (+ℤ_assoc (pos h) (nearness lowest) (pos 357)));
     }
 
-not_above_lem : (a b : ℕ) → pos a ≤ℤ pos b → a ≤ b
-not_above_lem a b h = leb→le a b h.le
-
-not_below : (a b : ℕ) → negsuc a ≤ℤ negsuc b → b ≤ a
-not_below a b h = leb→le b a h.le
-
 pub reading : (m : ℤ) → InRange m → Reading m
-reading (pos a) range = from_lowest (pos a) (a + 126) (rw (le-ltb (a + 126) 126 (omega arith)) (ap pos (back a))) (omega (arith, not_above_lem a _ range.1))
-  where
-    back : (a : ℕ) → a ≡ a + 126 - 126
-    back a = omega arith
-reading (negsuc a) range =
-    from_lowest (negsuc a) (125 - a) (rw (lt-ltb (125 - a) 126 (omega arith)) (ap negsuc (back a (omega (arith, not_below _ a range.0))))) (omega arith)
-  where
-    back : (a : ℕ) → a ≤ 125 → a ≡ 126 - suc (125 - a)
-    back a h = omega arith
+reading (pos a) range = from_lowest (pos a) (a + 126) (omega (arith, ints)) (omega (arith, ints))
+reading (negsuc a) range = from_lowest (negsuc a) (125 - a) (omega (arith, ints)) (omega arith)
 
 module _ (m : ℤ) (r : Reading m) where
   abbrev h : ℕ

@@ -1,10 +1,9 @@
 -- The laws of a loop that takes the lines of a band through a lattice, whichever it is, and of a run in two parts.
-use mathlib.Core.Path.{◌≡◌, refl, sym, ◌∙◌, ap}
+use mathlib.Core.Path.{◌≡◌, sym, ◌∙◌, ap}
 use mathlib.Core.List.{List, ◌++◌}
 use Prim.Native.Nat.{ℕ, ◌+◌, ◌<◌, ◌≤◌}
-use native.Mathlib.Omega.{arith}
 use lib.Ieee.{Float, nan}
-use lib.ListN.{length, take, drop, get_or, set, length-set}
+use lib.ListN.{length, take, drop, get_or, set}
 use Rattle.law_lists.proofs.InPlace.{one_more, state_more, none_left, state_left, through_length, lines_split, state_split}
 use Rattle.lattice_lines.specs.Lattice.{Lattice, lines_by, states_by, Filtered}
 use Rattle.lattice_lines.specs.declared.Passed.{Passed}
@@ -19,34 +18,27 @@ module _ (lattice : Lattice) (q : List Float) (order : ℕ) where
 
   -- The lines below i are done: these, with what the definition makes of the rest from here, are what it makes of all, and so are the states.
   pub record Going (start found states lines : List Float) (i : ℕ) : Type 0 where
-    pub within : i ≤ length found
-    pub as_many : length lines ≡ length found
     pub lines_go_on : lines_by lattice q order start found ≡ take i lines ++ lines_by lattice q order states (drop i lines)
     pub states_go_on : states_by lattice q order start found ≡ states_by lattice q order states (drop i lines)
 
-  pub begins : (start found : List Float) → Going start found start found 0
-  begins start found = record { within = omega arith; as_many = refl; lines_go_on = refl; states_go_on = refl }
-
-  pub one_line : (start found states lines : List Float) (i : ℕ) (p : Passed) → Going start found states lines i → i < length found
+  pub one_line : (start found states lines : List Float) (i : ℕ) (p : Passed) → Going start found states lines i → i < length lines
       → p ≡ lattice q order states (get_or lines i nan) → Going start found p.states (set lines i p.t) (i + 1)
   unfolding lines_by states_by
   one_line start found states lines i p g below e =
       let t = ap (λ (p : Passed). p.t) e in
       let s = ap (λ (p : Passed). p.states) e in
       record {
-        within = omega arith;
-        as_many = simp length-set g.as_many;
-        lines_go_on = g.lines_go_on ∙ one_more becomes after nan states p.states lines i p.t (omega (arith, g.as_many)) t s;
-        states_go_on = g.states_go_on ∙ state_more becomes after nan states p.states lines i p.t (omega (arith, g.as_many)) s;
+        lines_go_on = g.lines_go_on ∙ one_more becomes after nan states p.states lines i p.t below t s;
+        states_go_on = g.states_go_on ∙ state_more becomes after nan states p.states lines i p.t below s;
       }
 
-  pub all_lines : (start found states lines : List Float) (i : ℕ) → Going start found states lines i → length found ≤ i
+  pub all_lines : (start found states lines : List Float) (i : ℕ) → Going start found states lines i → length lines ≤ i
       → Filtered lattice q order start found states lines
   unfolding lines_by states_by
   all_lines start found states lines i g end =
       record {
-        states = sym (g.states_go_on ∙ state_left becomes after nan states lines i (omega (arith, g.as_many)));
-        lines = sym (g.lines_go_on ∙ none_left becomes after nan states lines i (omega (arith, g.as_many)));
+        states = sym (g.states_go_on ∙ state_left becomes after nan states lines i end);
+        lines = sym (g.lines_go_on ∙ none_left becomes after nan states lines i end);
       }
 
   -- a filter leaves as many lines as it finds

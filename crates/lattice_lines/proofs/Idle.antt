@@ -1,13 +1,10 @@
--- A filter of order 0 leaves lines and states alone: one law over the lattice, which both keep.
+-- A filter of order 0 leaves the lines of a band and the states alone, whichever the lattice is.
 use mathlib.Core.Path.{◌≡◌, ap}
 use mathlib.Core.List.{List}
 use lib.Ieee.{Float, nan}
 use Rattle.law_lists.proofs.InPlace.{lines_unchanged, state_unchanged}
-use Rattle.lattice_lines.specs.Lattice.{Lattice, lines_by, states_by, Filtered}
+use Rattle.lattice_lines.specs.Lattice.{Lattice, Idle, lines_by, states_by, Filtered}
 use Rattle.lattice_lines.specs.declared.Passed.{Passed}
-
-abbrev pub Idle : Lattice → Type 0
-Idle lattice = (q states : List Float) (line : Float) → lattice q 0 states line ≡ record { t = line; states = states }
 
 pub order_0 : (lattice : Lattice) → Idle lattice → (q states lines : List Float) → Filtered lattice q 0 states lines states lines
 unfolding lines_by states_by

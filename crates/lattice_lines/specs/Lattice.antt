@@ -19,6 +19,10 @@ lines_by lattice q order = lines_through (λ states line. (lattice q order state
 unfoldable pub states_by : Lattice → List Float → ℕ → List Float → List Float → List Float
 states_by lattice q order = state_through (λ states line. (lattice q order states line).states)
 
+-- a filter of order 0 leaves line and states alone: each lattice keeps this law
+abbrev pub Idle : Lattice → Type 0
+Idle lattice = (q states : List Float) (line : Float) → lattice q 0 states line ≡ record { t = line; states = states }
+
 -- what a filter that starts from some states leaves of the lines that it finds: `left`, and the states after them
 pub record Filtered (lattice : Lattice) (q : List Float) (order : ℕ) (start found after left : List Float) : Type 0 where
   pub states : after ≡ states_by lattice q order start found

@@ -14,9 +14,9 @@ use Rattle.row_bands.specs.declared.Band.{Band}
 use Rattle.row_bands.specs.declared.Row.{Row}
 use Rattle.row_bands.proofs.Bands.{Fits, SoundRow, band_kept, band_back}
 use Rattle.row_bands.proofs.Apart.{Outside, Apart, within_length, within_outside, inside_within, inside_other}
-use Rattle.lattice_lines.specs.Lattice.{Lattice, at_rest, lines_by, states_by, Filtered}
+use Rattle.lattice_lines.specs.Lattice.{Lattice, Idle, at_rest, lines_by, states_by, Filtered}
 use Rattle.lattice_lines.proofs.BandLines.{by_length}
-use Rattle.lattice_lines.proofs.Idle.{Idle, order_0}
+use Rattle.lattice_lines.proofs.Idle.{order_0}
 use Rattle.lattice_rows.specs.Filters.{Filter, bands_run, row_filtered, FilteredIn, FilteredRow}
 
 -- ---- what a filter makes of some lines, from some states

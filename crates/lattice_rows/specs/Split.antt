@@ -29,3 +29,10 @@ row_from_line n = each_band (band_from_line n)
 -- a band that has lines, of which the first stands below line n
 abbrev pub Begins : ℕ → Band → Type 0
 Begins n band = (band.start < n) × (band.start < band.stop)
+
+-- a cut band, each of whose numbers is one that some rule gives for the band's own
+pub record EachNumber (gives : ℕ → ℕ → Type 0) (band cut : Band) : Type 0 where
+  pub start : gives band.start cut.start
+  pub first_cut : gives band.first_cut cut.first_cut
+  pub second_cut : gives band.second_cut cut.second_cut
+  pub stop : gives band.stop cut.stop

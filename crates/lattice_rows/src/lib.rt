@@ -3,30 +3,32 @@
 #![tactic(auto)]
 
 ghost use Rattle.std.specs.Prelude.{◌≡◌};
-ghost use Rattle.lattice_rows.specs.Split.{band_below_line, band_from_line, row_below_line, row_from_line};
+ghost use Rattle.lattice_rows.specs.Split.{EachNumber, row_below_line, row_from_line};
 
-use law_numbers::{least, most};
 use row_bands::{Band, Row};
 
-fn band_below_line(n: usize, band: Band) -> Band
-    ensures { result ≡ band_below_line n band }
+// A band with each of its numbers held on one side of a line.
+fn each_number<F: Fn(usize) -> usize>(held: &F, band: Band) -> Band
+    requires { F.IsAlwaysCallable held.now }
+    ensures { EachNumber (F.post held.now) band result }
 {
     Band {
-        start: least(n, band.start),
-        first_cut: least(n, band.first_cut),
-        second_cut: least(n, band.second_cut),
-        stop: least(n, band.stop),
+        start: held(band.start),
+        first_cut: held(band.first_cut),
+        second_cut: held(band.second_cut),
+        stop: held(band.stop),
     }
 }
 
-fn band_from_line(n: usize, band: Band) -> Band
-    ensures { result ≡ band_from_line n band }
+// The same of both bands of a row.
+fn each_band<F: Fn(usize) -> usize>(held: F, row: Row) -> Row
+    requires { F.IsAlwaysCallable held }
+    ensures first { EachNumber (F.post held) row.first result.first }
+    ensures second { EachNumber (F.post held) row.second result.second }
 {
-    Band {
-        start: most(n, band.start),
-        first_cut: most(n, band.first_cut),
-        second_cut: most(n, band.second_cut),
-        stop: most(n, band.stop),
+    Row {
+        first: each_number(&held, row.first),
+        second: each_number(&held, row.second),
     }
 }
 
@@ -34,18 +36,12 @@ fn band_from_line(n: usize, band: Band) -> Band
 pub fn row_below_line(n: usize, row: Row) -> Row
     ensures { result ≡ row_below_line n row }
 {
-    Row {
-        first: band_below_line(n, row.first),
-        second: band_below_line(n, row.second),
-    }
+    each_band(|line| n.min(line), row)
 }
 
 // The bands of a row from a line on.
 pub fn row_from_line(n: usize, row: Row) -> Row
     ensures { result ≡ row_from_line n row }
 {
-    Row {
-        first: band_from_line(n, row.first),
-        second: band_from_line(n, row.second),
-    }
+    each_band(|line| n.max(line), row)
 }

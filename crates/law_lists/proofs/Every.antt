@@ -1,5 +1,5 @@
 -- Laws of tests over lists, of a list's default, which is not read inside the list, and of a limit on every number of a list.
-use mathlib.Core.Path.{◌≡◌, refl}
+use mathlib.Core.Path.{◌≡◌, refl, ap}
 use mathlib.Core.Bool.{Bool, true, false, ◌&&◌}
 use mathlib.Core.List.{List, [], ◌∷◌, ◌++◌}
 use Prim.Native.Nat.{ℕ, zero, suc, ◌+◌, ◌≤◌, ◌<◌}
@@ -8,6 +8,7 @@ use native.Mathlib.Nat.{le_of_suc-le-suc, not-suc-le-zero}
 use native.Mathlib.Omega.{arith}
 use lib.ListN.{length, get_or, take, drop, replicate, length-take, get_or-eq_default}
 use lib.Seq.{get_or-take, get_or-drop}
+use Rattle.std.specs.List.{list_all}
 use Rattle.law_lists.specs.Every.{every, EachAtMost}
 
 pub and_left : (a b : Bool) → a && b ≡ true → a ≡ true
@@ -29,6 +30,11 @@ pub every_at : {A : Type 0} (test : A → Bool) (xs : List A) → every test xs 
 every_at test [] all d e i = e
 every_at test (x ∷ xs) all d e zero = and_left (test x) (every test xs) all
 every_at test (x ∷ xs) all d e (suc i) = every_at test xs (and_right (test x) (every test xs) all) d e i
+
+-- it is the library's test of all members
+pub every_is_all : {A : Type 0} (test : A → Bool) (xs : List A) → list_all test xs ≡ every test xs
+every_is_all test [] = refl
+every_is_all test (x ∷ xs) = ap (λ (rest : Bool). test x && rest) (every_is_all test xs)
 
 -- ---- a limit on every number of a list
 

@@ -3,8 +3,8 @@ pub mod Every
 pub mod Counted
 pub mod Parts
 pub mod Portions
+pub mod Chunks
 pub mod InPlace
-pub mod Filled
 pub mod Tab
-pub mod Joined
+pub mod Made
 pub mod Orders

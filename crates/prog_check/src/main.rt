@@ -6,49 +6,38 @@
 #![tactic(auto)]
 
 use io_names::{argument, opened};
-use io_progress::{Progress, of_file};
-use io_read_twice::{first_reading, put_sum, second_reading};
-use io_reading::Standing;
+use io_progress::of_file;
+use io_read_twice::{first_reading, second_reading, summed};
+use io_reading::Named;
 use io_reading_mend::Mending;
 use io_streams::{failed, refuse};
-use std::fs::File;
 
 // The file is sound if the report is empty. Of another it is said how much of it a rescue keeps.
 fn judge(rt: &HostRuntime, found: Mending) {
     if found.is_reported {
-        let mut text = [0u8; 128];
-        let count = put_sum(found, &mut text);
-        refuse(rt, &text[..count]);
+        refuse(rt, summed(found).as_bytes());
     }
 }
 
-// The second reading, which makes no file.
-fn read_again(rt: &HostRuntime, input: &File, name: &[u8], counted: Standing, progress: Progress) {
-    let found = second_reading(rt, input, name, None, b"", counted, progress);
-    if found.standing.is_well {
-        judge(rt, found);
-    }
-}
-
-// Checks what is in an open file.
-fn check_of(rt: &HostRuntime, input: &File, name: &[u8]) {
-    let progress = of_file(rt, input);
-    let counted = first_reading(rt, input, name, progress);
-    if counted.is_well {
-        read_again(rt, input, name, counted, progress);
+// Checks what is in an open file: neither reading makes one.
+fn check_of(rt: &HostRuntime, file: Named) {
+    let progress = of_file(rt, file.file);
+    if let Some(counted) = first_reading(rt, file, progress) {
+        if let Some(found) = second_reading(rt, file, None, counted, progress) {
+            judge(rt, found);
+        }
     }
 }
 
 fn check(rt: &HostRuntime, name: &[u8]) {
     if let Some(input) = opened(rt, name) {
-        check_of(rt, &input, name);
+        check_of(rt, Named { file: &input, name });
     }
 }
 
 fn main(rt: HostRuntime) {
-    let mut name = [0u8; 4096];
-    match argument(&rt, 1, &mut name) {
-        Ok(length) => check(&rt, &name[..length]),
+    match argument::<4096>(&rt, 1) {
+        Ok(name) => check(&rt, name.as_bytes()),
         Err(reason) => failed(&rt, b"tns: the name", reason),
     }
 }

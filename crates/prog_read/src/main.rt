@@ -3,9 +3,9 @@
 // written is tested.
 #![tactic(auto)]
 
-use io_portion::Way;
+use io_portion::ToRecords;
 use io_transfer::transfer;
 
 fn main(rt: HostRuntime) {
-    transfer(&rt, Way::ToRecords);
+    transfer::<ToRecords>(&rt);
 }

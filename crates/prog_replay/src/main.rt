@@ -6,79 +6,64 @@
 // last how many records there are and how many differ. A list that ends inside a record differs there.
 #![tactic(auto)]
 
-ghost use Rattle.std.specs.Prelude.{◌+◌, ◌<◌, ◌≤◌};
-
-use replay_list::{labelled, read_full, say};
+use replay_list::read_full;
 use replay_record::record;
 use std::env::FillError;
+use std::fs;
 use std::io::Read;
 use std::rt::{Env, Files};
-use std::{fs, io};
 
-// One difference more, if the record differs. Its number ends the line.
-fn counted(rt: &impl Print, differences: u64, number: u64, different: bool) -> u64
-    requires { differences < 18446744073709551615 }
-    ensures { result ≤ differences + 1 }
-{
-    if !different {
-        return differences;
-    }
-    labelled(rt, b" in record ", number);
-    say(rt, b"\n");
-    differences + 1
-}
-
-// A list's last line.
-fn report(rt: &impl Print, name: &[u8], records: u64, differences: u64) {
-    say(rt, name);
-    labelled(rt, b": ", records);
-    labelled(rt, b" records, ", differences);
-    say(rt, b" differences\n");
+// How many records a list has, and how many of them differ.
+#[derive(Clone, Copy, Debug, Default)]
+struct Tally {
+    records: u64,
+    differences: u64,
 }
 
 // All records of an open list.
-fn records(rt: &impl Print, list: &mut impl Read, name: &[u8]) {
-    let mut number = 0u64;
-    let mut differences = 0u64;
-    while number < u64::MAX {
+fn replayed(rt: &impl Print, list: &mut impl Read) -> Tally {
+    let mut tally = Tally::default();
+    for number in 0..u64::MAX {
         let mut head = [0u8; 7];
         if read_full(list, &mut head) == 0 {
             break;
         }
-        differences = counted(rt, differences, number, record(rt, list, head));
-        number += 1;
+        if record(rt, list, head) {
+            let _ = println!(rt; " in record {number}");
+            tally.differences += 1;
+        }
+        tally.records = number + 1;
     }
-    report(rt, name, number, differences);
+    tally
 }
 
-// A list that cannot be opened has no records. The system's files are named by text, and none is opened by a name
-// that is not.
-fn opened(rt: &(impl Files + Print), name: &[u8]) {
-    let list = match str::from_utf8(name) {
-        Ok(path) => fs::open(rt, path),
-        Err(_) => Err(io::Error::from(io::ErrorKind::InvalidFilename)),
+// The system's files are named by text, and none is opened by a name that is not.
+fn opened<R: Files>(rt: &R, name: &[u8]) -> Option<R::File> {
+    let path = str::from_utf8(name).ok()?;
+    fs::open(rt, path).ok()
+}
+
+// A list by its name, with its last line. One that cannot be opened has no records.
+fn named(rt: &(impl Files + Print), name: &[u8]) {
+    let tally = match opened(rt, name) {
+        Some(mut list) => replayed(rt, &mut list),
+        None => Tally::default(),
     };
-    match list {
-        Ok(mut list) => records(rt, &mut list, name),
-        Err(_) => report(rt, name, 0, 0),
-    }
+    let records = tally.records;
+    let differences = tally.differences;
+    let _ = rt.write_all(name);
+    let _ = println!(rt; ": {records} records, {differences} differences");
 }
 
-// The list that an argument names. Answers whether there is such an argument.
-fn named(rt: &(impl Env + Files + Print), argument: usize) -> bool {
-    let mut name = [0u8; 4096];
-    match rt.arg(argument, &mut name) {
-        Ok(length) => opened(rt, &name[..length]),
-        Err(FillError::TooLong) => opened(rt, b""),
-        Err(FillError::NotPresent) => return false,
-    }
-    true
-}
-
+// The names one after the other. `argument` of io_names makes one error of a name too long and of none: here the first
+// is a list that cannot be opened, and the second the end.
 fn main(rt: HostRuntime) {
+    let mut name = [0u8; 4096];
     for argument in 1..usize::MAX {
-        if !named(&rt, argument) {
-            break;
+        match rt.arg(argument, &mut name) {
+            Ok(length) => named(&rt, &name[..length]),
+            Err(FillError::TooLong) => named(&rt, b""),
+            Err(FillError::NotPresent) => break,
         }
     }
 }

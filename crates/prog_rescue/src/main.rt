@@ -8,24 +8,33 @@
 #![tactic(auto)]
 
 use io_names::{
-    argument, complain_of, failed_at, is_free, make_part, named, note_parts, opened, removed,
+    LONGEST, argument, complain_of, failed_at, is_free, make_part, named, note_parts, opened,
+    removed,
 };
 use io_paths::part_name;
 use io_progress::{Progress, of_file};
-use io_read_twice::{first_reading, put_sum, second_reading};
-use io_reading::Standing;
+use io_read_twice::{first_reading, second_reading, summed};
+use io_reading::{Named, Standing};
 use io_reading_mend::Mending;
 use io_streams::{failed, say, to_launcher};
 use std::fs::File;
 use std::io::ErrorKind;
-use text_put::{put, put_numbered};
+use text_put::Text;
+
+// A damaged file whose blocks to keep are counted, and how far its readings are.
+#[derive(Clone, Copy)]
+struct Damaged<'a> {
+    file: Named<'a>,
+    counted: Standing,
+    progress: Progress,
+}
 
 // Gives the launcher the number of the part.
 fn begin_part(rt: &HostRuntime, number: u64) {
-    let mut text = [0u8; 32];
-    let numbered = put_numbered(b"[", number, &mut text, 0);
-    let count = put(b"]", &mut text, numbered);
-    to_launcher(rt, &text[..count]);
+    let mut text = Text::<32>::new();
+    text.put_numbered(b"[", number);
+    text.put(b"]");
+    to_launcher(rt, text.as_bytes());
 }
 
 // The part is gone: it has its own name, or is removed.
@@ -35,26 +44,23 @@ fn end_part(rt: &HostRuntime) {
 
 // Says how much was kept, where something was dropped.
 fn sum_up(rt: &HostRuntime, found: Mending) {
-    let mut text = [0u8; 128];
-    let count = put_sum(found, &mut text);
-    say(rt, &text[..count]);
+    say(rt, summed(found).as_bytes());
 }
 
 // Fills the part, gives it its own name, and sums up. Answers whether it has that name.
-fn is_made(
-    rt: &HostRuntime,
-    input: &File,
-    damaged: &[u8],
-    output: File,
-    part: &[u8],
-    mended: &[u8],
-    counted: Standing,
-    progress: Progress,
-) -> bool {
-    let found = second_reading(rt, input, damaged, Some(&output), mended, counted, progress);
-    if !found.standing.is_well {
+fn is_made(rt: &HostRuntime, damaged: Damaged, output: File, part: &[u8], mended: &[u8]) -> bool {
+    let made = Named {
+        file: &output,
+        name: mended,
+    };
+    let Damaged {
+        file,
+        counted,
+        progress,
+    } = damaged;
+    let Some(found) = second_reading(rt, file, Some(made), counted, progress) else {
         return false;
-    }
+    };
     if !named(rt, output, part, mended) {
         return false;
     }
@@ -63,18 +69,11 @@ fn is_made(
     true
 }
 
-// Makes the file under another name beside its place. Where it does not come out whole, it is removed.
-fn make(
-    rt: &HostRuntime,
-    input: &File,
-    damaged: &[u8],
-    mended: &[u8],
-    counted: Standing,
-    progress: Progress,
-) {
-    let mut number = 0u64;
-    let output = match make_part(rt, mended, &mut number) {
-        Ok(output) => output,
+// Makes the file under another name beside its place. Where it does not come out whole, it is removed. The answer is
+// matched, here and in `name_of`: its other arm says what failed, which a closure would say no more plainly.
+fn make(rt: &HostRuntime, damaged: Damaged, mended: &[u8]) {
+    let (output, number) = match make_part(rt, mended) {
+        Ok(made) => made,
         Err(reason) => {
             if reason.kind() == ErrorKind::AlreadyExists {
                 complain_of(rt, mended, b": too many part files beside it\n");
@@ -86,29 +85,24 @@ fn make(
     };
     begin_part(rt, number);
     note_parts(rt, mended, number);
-    let mut name = [0u8; 4200];
-    let length = part_name(mended, number, &mut name);
-    if !is_made(
-        rt,
-        input,
-        damaged,
-        output,
-        &name[..length],
-        mended,
-        counted,
-        progress,
-    ) {
-        removed(rt, &name[..length]);
+    let name: Text<LONGEST> = part_name(mended, number);
+    let part = name.as_bytes();
+    if !is_made(rt, damaged, output, part, mended) {
+        removed(rt, part);
         end_part(rt);
     }
 }
 
 // Rescues what is in an open file.
-fn rescue_of(rt: &HostRuntime, input: &File, damaged: &[u8], mended: &[u8]) {
-    let progress = of_file(rt, input);
-    let counted = first_reading(rt, input, damaged, progress);
-    if counted.is_well {
-        make(rt, input, damaged, mended, counted, progress);
+fn rescue_of(rt: &HostRuntime, file: Named, mended: &[u8]) {
+    let progress = of_file(rt, file.file);
+    if let Some(counted) = first_reading(rt, file, progress) {
+        let damaged = Damaged {
+            file,
+            counted,
+            progress,
+        };
+        make(rt, damaged, mended);
     }
 }
 
@@ -117,26 +111,31 @@ fn rescue(rt: &HostRuntime, damaged: &[u8], mended: &[u8]) {
         return;
     }
     if let Some(input) = opened(rt, damaged) {
-        rescue_of(rt, &input, damaged, mended);
+        let file = Named {
+            file: &input,
+            name: damaged,
+        };
+        rescue_of(rt, file, mended);
+    }
+}
+
+// The name that an argument gives. Where it is not there, that is said of what `what` names.
+fn name_of(rt: &HostRuntime, number: usize, what: &[u8]) -> Option<Text<4096>> {
+    match argument(rt, number) {
+        Ok(name) => Some(name),
+        Err(reason) => {
+            failed(rt, what, reason);
+            None
+        }
     }
 }
 
 fn main(rt: HostRuntime) {
-    let mut damaged = [0u8; 4096];
-    let damaged_length = match argument(&rt, 1, &mut damaged) {
-        Ok(length) => length,
-        Err(reason) => {
-            failed(&rt, b"tns: the first name", reason);
-            return;
-        }
+    let Some(damaged) = name_of(&rt, 1, b"tns: the first name") else {
+        return;
     };
-    let mut mended = [0u8; 4096];
-    let mended_length = match argument(&rt, 2, &mut mended) {
-        Ok(length) => length,
-        Err(reason) => {
-            failed(&rt, b"tns: the second name", reason);
-            return;
-        }
+    let Some(mended) = name_of(&rt, 2, b"tns: the second name") else {
+        return;
     };
-    rescue(&rt, &damaged[..damaged_length], &mended[..mended_length]);
+    rescue(&rt, damaged.as_bytes(), mended.as_bytes());
 }

@@ -3,9 +3,9 @@
 // written is tested.
 #![tactic(auto)]
 
-use io_portion::Way;
+use io_portion::ToBlocks;
 use io_transfer::transfer;
 
 fn main(rt: HostRuntime) {
-    transfer(&rt, Way::ToBlocks);
+    transfer::<ToBlocks>(&rt);
 }

@@ -3,53 +3,126 @@
 // not export, to the two that have it.
 #![tactic(auto)]
 
-use answer_call::Answer;
+ghost use Rattle.std.specs.Prelude.{◌≤◌};
+ghost use Rattle.replay_record.specs.declared.TheConstants.{MOST_ORDERS, MOST_INDICES, MOST_LINES};
+
+use answer_call::{Answer, accepted};
 use index_choice::index_of;
 use index_coefficients::coefficient_of;
-use law_numbers::least;
-use replay_list::{
-    coefficients_compared, compared, float_of, gains_compared, given, given_line, indices_of,
-    line_compared, lines_compared, on_compared, orders_of, read_lines, say, side_compared,
-    states_compared, states_of, two_words,
-};
+use replay_list::{Replay, float_of};
 use std::io::Read;
 use tns::{tns_cost, tns_decode, tns_decode_restart, tns_decode_save, tns_encode};
 
-fn answer_compared(rt: &impl Print, list: &mut impl Read, found: Answer) -> bool {
-    let a = compared(rt, list, found.refusal as u64, false);
-    let b = compared(rt, list, found.place as u64, a);
-    let c = compared(rt, list, found.found as u64, b);
-    compared(rt, list, found.bits as u64, c)
+// What a record has room for.
+const MOST_ORDERS: usize = 3;
+
+const MOST_INDICES: usize = 17;
+
+const MOST_LINES: usize = 401;
+
+// The calls. Their numbers in a record are those of `try_from`.
+#[derive(Clone, Copy, Debug, PartialEq, Eq)]
+enum Kind {
+    Index,
+    Cost,
+    Decode,
+    Encode,
+    Save,
+    Restart,
 }
 
-// An index record: its one line becomes its coefficient, and its index stands as the answer's bits.
-fn index_compared(rt: &impl Print, list: &mut impl Read) -> bool {
-    let index = index_of(given_line(list));
-    let answer = Answer {
-        refusal: 0,
-        place: 0,
-        found: 0,
-        bits: index as u16,
-    };
-    let a = answer_compared(rt, list, answer);
-    line_compared(rt, list, coefficient_of(index), a)
+// A record has a call that does not exist, more of something than there is room for, or an index call's lines
+// other than one.
+#[derive(Clone, Copy, Debug, PartialEq, Eq)]
+struct OutOfRange;
+
+impl TryFrom<u8> for Kind {
+    type Error = OutOfRange;
+
+    fn try_from(number: u8) -> Result<Kind, OutOfRange> {
+        match number {
+            0 => Ok(Kind::Index),
+            1 => Ok(Kind::Cost),
+            2 => Ok(Kind::Decode),
+            3 => Ok(Kind::Encode),
+            4 => Ok(Kind::Save),
+            5 => Ok(Kind::Restart),
+            _ => Err(OutOfRange),
+        }
+    }
 }
 
-// A head: the call, its numbers, and how many orders and indices it has.
+// A head: the call, its numbers, and how many orders, indices and lines it has.
 #[derive(Clone, Copy)]
 struct Call {
-    kind: u8,
+    kind: Kind,
     duration: u8,
     bandwidth: u8,
     choice: u8,
     filters: u8,
-    orders: u8,
-    indices: u8,
+    orders: usize,
+    indices: usize,
+    lines: usize,
+    ghost few_orders: { orders ≤ MOST_ORDERS },
+    ghost few_indices: { indices ≤ MOST_INDICES },
+    ghost few_lines: { lines ≤ MOST_LINES },
+}
+
+impl Call {
+    fn new(head: [u8; 7], lines: usize) -> Result<Call, OutOfRange> {
+        let [kind, duration, bandwidth, choice, filters, orders, indices] = head;
+        let kind = Kind::try_from(kind)?;
+        if kind == Kind::Index && lines != 1 {
+            return Err(OutOfRange);
+        }
+        let orders = usize::from(orders);
+        let indices = usize::from(indices);
+        if orders > MOST_ORDERS || indices > MOST_INDICES || lines > MOST_LINES {
+            return Err(OutOfRange);
+        }
+        Ok(Call {
+            kind,
+            duration,
+            bandwidth,
+            choice,
+            filters,
+            orders,
+            indices,
+            lines,
+        })
+    }
+}
+
+fn compare_answer<P: Print, L: Read>(replay: &mut Replay<P, L>, found: Answer) {
+    replay.compare_all(&[found.refusal, found.place, found.found, found.bits]);
+}
+
+// An index record: its one line becomes its coefficient, and its index stands as the answer's bits.
+fn replay_index<P: Print, L: Read>(replay: &mut Replay<P, L>, lines: &mut [f32]) {
+    for line in lines.iter_mut() {
+        let index = index_of(*line);
+        compare_answer(replay, accepted(u16::from(index)));
+        *line = coefficient_of(index);
+    }
+}
+
+// A cost or decode record: its call is made with the record's orders and indices.
+fn replay_side<P: Print, L: Read, F: FnOnce(&[u8], &[u8]) -> Answer>(
+    replay: &mut Replay<P, L>,
+    call: &Call,
+    make: F,
+)
+    requires { F.IsAlwaysCallable make }
+{
+    let orders: [u8; MOST_ORDERS] = replay.bytes();
+    let indices: [u8; MOST_INDICES] = replay.bytes();
+    let answer = make(&orders[..call.orders], &indices[..call.indices]);
+    compare_answer(replay, answer);
 }
 
 // An encode record. What the call may write to holds patterns, which a refusal must leave.
-fn encode_compared(rt: &impl Print, list: &mut impl Read, call: Call, lines: &mut [f32]) -> bool {
-    let bits = two_words(list);
+fn replay_encode<P: Print, L: Read>(replay: &mut Replay<P, L>, call: &Call, lines: &mut [f32]) {
+    let bits = replay.two_words();
     let lent = float_of(0xa5a5_a5a5);
     let mut side = [0xa5u8; 20];
     let mut coefficients = [lent; 16];
@@ -66,182 +139,107 @@ fn encode_compared(rt: &impl Print, list: &mut impl Read, call: Call, lines: &mu
         &mut gains,
         &mut on,
     );
-    let a = answer_compared(rt, list, answer);
-    let b = side_compared(rt, list, side, a);
-    let c = coefficients_compared(rt, list, coefficients, b);
-    let d = gains_compared(rt, list, gains, c);
-    on_compared(rt, list, on, d)
+    compare_answer(replay, answer);
+    replay.compare_all(&side);
+    replay.compare_all(&coefficients);
+    // gain and damping of the first filter, then of the second
+    replay.compare_all(&gains);
+    // a byte for each filter: whether it is on
+    replay.compare_all(&on);
 }
 
-// The answer to a cost or decode record.
-fn answered(call: Call, orders: &[u8], indices: &[u8], lines: &mut [f32]) -> Answer {
-    if call.kind == 1 {
-        return tns_cost(call.choice, call.filters, orders, indices);
+// A save or restart record from its orders on: its call is made with them, the indices, the output, the line and the
+// states. Its spectrum stays as it is.
+fn replay_line<P: Print, L: Read, F>(
+    replay: &mut Replay<P, L>,
+    call: &Call,
+    make: F,
+) -> Result<(), OutOfRange>
+where
+    F: FnOnce(&[u8], &[u8], &mut [f32], usize, &mut [f32; 8]) -> Answer,
+    requires { F.IsAlwaysCallable make }
+{
+    let orders: [u8; MOST_ORDERS] = replay.bytes();
+    let indices: [u8; MOST_INDICES] = replay.bytes();
+    let n = replay.two_words() as usize;
+    let m = replay.given() as usize;
+    if m > MOST_LINES {
+        return Err(OutOfRange);
     }
-    tns_decode(
-        call.duration,
-        call.bandwidth,
-        call.filters,
-        orders,
-        indices,
-        lines,
-    )
-}
-
-// The same with the record's orders and indices.
-fn lists_answered(list: &mut impl Read, call: Call, lines: &mut [f32]) -> Answer {
-    let orders = orders_of(list);
-    let indices = indices_of(list);
-    let o = least(call.orders as usize, 3);
-    let i = least(call.indices as usize, 17);
-    answered(call, &orders[0..o], &indices[0..i], lines)
-}
-
-// A record but for its lines.
-fn call_compared(rt: &impl Print, list: &mut impl Read, call: Call, lines: &mut [f32]) -> bool {
-    if call.kind == 3 {
-        return encode_compared(rt, list, call, lines);
-    }
-    let answer = lists_answered(list, call, lines);
-    answer_compared(rt, list, answer)
-}
-
-// A record with lines: they are read, the call is made, and all that it leaves is compared.
-fn replayed(rt: &impl Print, list: &mut impl Read, call: Call, lines: &mut [f32]) -> bool {
-    read_lines(list, lines);
-    let a = call_compared(rt, list, call, lines);
-    lines_compared(rt, list, lines, a)
-}
-
-// The answer to a save or restart record.
-fn line_answered(
-    call: Call,
-    orders: &[u8],
-    indices: &[u8],
-    spectrum: &[f32],
-    output: &mut [f32],
-    n: usize,
-    states: &mut [f32; 8],
-) -> Answer {
-    if call.kind == 4 {
-        return tns_decode_save(
-            call.duration,
-            call.bandwidth,
-            call.filters,
-            orders,
-            indices,
-            spectrum,
-            output,
-            n,
-            states,
-        );
-    }
-    tns_decode_restart(
-        call.duration,
-        call.bandwidth,
-        call.filters,
-        orders,
-        indices,
-        spectrum,
-        output,
-        n,
-        states,
-    )
-}
-
-// A save or restart record from its output on. The call is made with the record's orders and indices,
-// and all that it leaves is compared.
-fn output_compared(
-    rt: &impl Print,
-    list: &mut impl Read,
-    call: Call,
-    orders: [u8; 3],
-    indices: [u8; 17],
-    spectrum: &[f32],
-    output: &mut [f32],
-    n: usize,
-) -> bool {
-    read_lines(list, output);
-    let mut states = states_of(list);
-    let o = least(call.orders as usize, 3);
-    let i = least(call.indices as usize, 17);
-    let answer = line_answered(
-        call,
-        &orders[0..o],
-        &indices[0..i],
-        spectrum,
+    let mut room = [0.0f32; MOST_LINES];
+    let output = &mut room[..m];
+    replay.read_lines(output);
+    let mut states: [f32; 8] = replay.lines();
+    let answer = make(
+        &orders[..call.orders],
+        &indices[..call.indices],
         output,
         n,
         &mut states,
     );
-    let a = answer_compared(rt, list, answer);
-    let b = states_compared(rt, list, states, a);
-    lines_compared(rt, list, output, b)
+    compare_answer(replay, answer);
+    replay.compare_all(&states);
+    replay.compare_all(output);
+    Ok(())
 }
 
-// A save or restart record: its lines are the spectrum, which stays as it is.
-fn line_replayed(rt: &impl Print, list: &mut impl Read, call: Call, spectrum: &mut [f32]) -> bool {
-    read_lines(list, spectrum);
-    let orders = orders_of(list);
-    let indices = indices_of(list);
-    let n = two_words(list) as usize;
-    let m = given(list) as usize;
-    if m > 401 {
-        return out_of_range(rt);
+// Makes the call of a record, and compares all that it answers and leaves.
+fn replay_call<P: Print, L: Read>(
+    replay: &mut Replay<P, L>,
+    head: [u8; 7],
+) -> Result<(), OutOfRange> {
+    let lines = replay.given() as usize;
+    let call = Call::new(head, lines)?;
+    let Call {
+        duration,
+        bandwidth,
+        choice,
+        filters,
+        ..
+    } = call;
+    let mut room = [0.0f32; MOST_LINES];
+    let lines = &mut room[..call.lines];
+    replay.read_lines(lines);
+    // each call has arguments of its own, so they are told apart here, before the closures
+    match call.kind {
+        Kind::Index => replay_index(replay, lines),
+        Kind::Cost => replay_side(replay, &call, |orders, indices| {
+            tns_cost(choice, filters, orders, indices)
+        }),
+        Kind::Decode => replay_side(replay, &call, |orders, indices| {
+            tns_decode(duration, bandwidth, filters, orders, indices, lines)
+        }),
+        Kind::Encode => replay_encode(replay, &call, lines),
+        Kind::Save => {
+            return replay_line(replay, &call, |orders, indices, output, n, states| {
+                tns_decode_save(
+                    duration, bandwidth, filters, orders, indices, lines, output, n, states,
+                )
+            });
+        }
+        Kind::Restart => {
+            return replay_line(replay, &call, |orders, indices, output, n, states| {
+                tns_decode_restart(
+                    duration, bandwidth, filters, orders, indices, lines, output, n, states,
+                )
+            });
+        }
     }
-    let mut output = [0.0f32; 401];
-    output_compared(
+    replay.compare_all(lines);
+    Ok(())
+}
+
+// A record: its call is made, and all that it answers and leaves is compared. Answers whether it differs. One that
+// is out of range does.
+pub fn record(rt: &impl Print, list: &mut impl Read, head: [u8; 7]) -> bool {
+    let mut replay = Replay {
         rt,
         list,
-        call,
-        orders,
-        indices,
-        spectrum,
-        &mut output[0..m],
-        n,
-    )
-}
-
-// Whether a record has a call that does not exist, more of something than there is room for, or an index
-// call's lines other than one.
-fn beyond(call: Call, lines: usize) -> bool {
-    if call.kind == 0 && lines != 1 {
+        differs: false,
+    };
+    if replay_call(&mut replay, head).is_err() {
+        let _ = print!(rt; "a call or a count beyond its range");
         return true;
     }
-    call.kind > 5 || call.orders > 3 || call.indices > 17 || lines > 401
-}
-
-fn out_of_range(rt: &impl Print) -> bool {
-    say(rt, b"a call or a count beyond its range");
-    true
-}
-
-fn called(rt: &impl Print, list: &mut impl Read, call: Call) -> bool {
-    let n = given(list) as usize;
-    if beyond(call, n) {
-        return out_of_range(rt);
-    }
-    if call.kind == 0 {
-        return index_compared(rt, list);
-    }
-    let mut lines = [0.0f32; 401];
-    let n = least(n, 401);
-    if call.kind > 3 {
-        return line_replayed(rt, list, call, &mut lines[0..n]);
-    }
-    replayed(rt, list, call, &mut lines[0..n])
-}
-
-// A record: its call is made, and all that it answers and leaves is compared. Answers whether it differs.
-pub fn record(rt: &impl Print, list: &mut impl Read, head: [u8; 7]) -> bool {
-    let call = Call {
-        kind: head[0],
-        duration: head[1],
-        bandwidth: head[2],
-        choice: head[3],
-        filters: head[4],
-        orders: head[5],
-        indices: head[6],
-    };
-    called(rt, list, call)
+    replay.differs
 }

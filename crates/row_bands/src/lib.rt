@@ -5,11 +5,10 @@
 ghost use Rattle.std.specs.Prelude.{◌≡◌, [], get_or};
 ghost use Rattle.row_bands.specs.Bands.{bands_of, row_of, last_stop};
 
-use law_numbers::most;
 use row_durations::{Duration, SevenPointFiveMs, TenMs};
 
 // A band: its lines are those from start to stop, stop not included. Two cuts make three subbands.
-#[derive(Clone, Copy)]
+#[derive(Clone, Copy, Debug, Default, PartialEq, Eq)]
 pub struct Band {
     pub start: usize,
     pub first_cut: usize,
@@ -17,8 +16,9 @@ pub struct Band {
     pub stop: usize,
 }
 
-// The bands of the two filters. Where a band starts and stops at 0, there is no band.
-#[derive(Clone, Copy)]
+// The bands of the two filters. Where a band starts and stops at 0, there is no band. It is no Option: `row_of`
+// here and `asked_band` of call_band promise a band at 0 to 0 there (`row_of`, `no_band` of specs/Bands).
+#[derive(Clone, Copy, Debug, PartialEq, Eq)]
 pub struct Row {
     pub first: Band,
     pub second: Band,
@@ -106,5 +106,5 @@ pub fn row_of(duration: Duration, bandwidth: u8) -> Row
 pub fn last_stop(row: Row) -> usize
     ensures { result ≡ last_stop row }
 {
-    most(row.first.stop, row.second.stop)
+    row.first.stop.max(row.second.stop)
 }

@@ -5,6 +5,8 @@
 ghost use Rattle.std.specs.Prelude.{◌≡◌};
 ghost use Rattle.row_durations.specs.Durations.{duration_of, weighting_of, numbers_of};
 
+// Constants of a type for each duration are the form that the project's rules ask for (docs/DECISIONS.md, "Language
+// forms"). No trait: nothing takes a duration as a type, since each call learns it from a number.
 #[derive(Clone, Copy)]
 pub struct TenMs;
 
@@ -33,13 +35,14 @@ impl SevenPointFiveMs {
     pub const WEIGHTING_LIMIT: u64 = 360;
 }
 
-#[derive(Clone, Copy)]
+#[derive(Clone, Copy, Debug, PartialEq, Eq)]
 pub enum Duration {
     Ten,
     SevenPointFive,
 }
 
-// The duration of a code: 0 is 10 ms, and any other 7.5 ms. `check_frame` refuses codes over 1.
+// The duration of a code: 0 is 10 ms, and any other 7.5 ms. `check_frame` refuses codes over 1. It is no `From`,
+// since such a code has no duration, and no `TryFrom`, since it does not fail.
 pub fn duration_of(code: u8) -> Duration
     ensures { result ≡ duration_of code }
 {
@@ -50,7 +53,7 @@ pub fn duration_of(code: u8) -> Duration
     }
 }
 
-// The longest spectrum of a duration.
+// The longest spectrum of a duration. Like the limit below, it reads the constant of its own name off each type.
 pub fn longest(duration: Duration) -> usize
     ensures { result ≡ (numbers_of duration).longest }
 {
@@ -70,12 +73,9 @@ fn weighting_limit(duration: Duration) -> u64
 }
 
 // The weighting of a frame of so many bits: E's `lpc_weighting`.
+#[tactic(auto, unfolding(crate::specs::Durations::weighting_of))]
 pub fn lpc_weighting(duration: Duration, nbits: u64) -> u8
     ensures { result ≡ weighting_of (numbers_of duration) nbits }
 {
-    if nbits < weighting_limit(duration) {
-        1
-    } else {
-        0
-    }
+    u8::from(nbits < weighting_limit(duration))
 }

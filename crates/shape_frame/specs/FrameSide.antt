@@ -13,7 +13,6 @@ use Rattle.shape_gain.specs.declared.Gains.{Gains}
 use Rattle.shape_filter.specs.Analysis.{filter_record, reflections_of}
 use Rattle.shape_frame.specs.declared.Found.{Found}
 use Rattle.shape_frame.specs.declared.Shaped.{Shaped}
-use Rattle.shape_frame.specs.declared.Bands.{Bands}
 
 -- the row has a second band
 abbrev pub has_second : Row → Bool
@@ -53,12 +52,9 @@ frame_found row lines flag weighting =
 
 -- ---- what inner contracts cite; no public promise rests on these names
 
--- what the analysis finds in a band, in the second band or none, and in the bands of a row
+-- what the analysis finds in a band, and in the second band or none
 abbrev pub shaped_of : Band → List Float → Bool → ℕ → Shaped
 shaped_of band lines flag weighting = record { filter = filter_of band lines flag weighting; gain = filter_record band lines flag weighting }
 
 abbrev pub shaped_second : Row → List Float → Bool → ℕ → Shaped
 shaped_second row lines flag weighting = record { filter = second_of row lines flag weighting; gain = second_record row lines flag weighting }
-
-abbrev pub bands_of : Row → List Float → Bool → ℕ → Bands
-bands_of row lines flag weighting = record { side = side_of row lines flag weighting; gains = gains_of row lines flag weighting }

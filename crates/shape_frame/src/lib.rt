@@ -1,6 +1,7 @@
 // The analysis of a frame: a filter for each band of its row, analysed by shape_filter and quantized, its
 // gain, and what the side data costs. It assumes a frame that the encode call has checked: the row is one of the
-// table's, and its lines are there.
+// table's, and its lines are there. That (`Long`, `LongRow`) stays a clause of each function: a type for it would
+// join a band or a row with a borrow of the caller's lines, which the definitions take one by one.
 #![tactic(auto)]
 
 ghost use Rattle.std.specs.Prelude.{◌≡◌, length};
@@ -8,8 +9,9 @@ ghost use Rattle.shape_lags.specs.LongBands.{Long, LongRow};
 ghost use Rattle.check_side.specs.Sides.{SoundSide};
 ghost use Rattle.cost_call.specs.Cost.{counted_bits};
 ghost use Rattle.side_data.specs.Side.{orders_in, indices_in};
-ghost use Rattle.shape_frame.specs.FrameSide.{count_of, shaped_of, shaped_second, bands_of, frame_found};
+ghost use Rattle.shape_frame.specs.FrameSide.{count_of, shaped_of, shaped_second, frame_found};
 
+use check_side::CheckedSide;
 use cost_call::counted_bits;
 use row_bands::{Band, Row};
 use shape_filter::analyse;
@@ -18,7 +20,7 @@ use side_data::{SideData, bytes_of};
 use side_quantized::{Quantized, none, quantize_all};
 
 // What the analysis finds in a frame: its side data, their bits, and the gains.
-#[derive(Clone, Copy)]
+#[derive(Clone, Copy, Debug, PartialEq)]
 pub struct Found {
     pub bits: u16,
     pub side: SideData,
@@ -32,27 +34,22 @@ struct Shaped {
     gain: FilterGain,
 }
 
-// What it finds in the bands of a row.
-#[derive(Clone, Copy)]
-struct Bands {
-    side: SideData,
-    gains: Gains,
-}
-
-// The filter of a band, and its record.
+// The filter of a band, and its record. Lines, band or row, flag and weighting stand one by one here and below, as in
+// the definitions: a struct of them would hold a borrow and be taken apart at once.
 fn filter_of(lines: &[f32], band: Band, flag: bool, weighting: u8) -> Shaped
     requires { Long band (length lines.now) }
     ensures { result ≡ shaped_of band lines.now flag weighting }
 {
     let found = analyse(lines, band, flag, weighting);
-    let gain = found.gain;
-    if gain.on {
-        let reflections = found.reflections;
-        let filter = quantize_all(reflections);
-        return Shaped { filter, gain };
+    let filter = if found.gain.on {
+        quantize_all(found.reflections)
+    } else {
+        none()
+    };
+    Shaped {
+        filter,
+        gain: found.gain,
     }
-    let filter = none();
-    Shaped { filter, gain }
 }
 
 // The same of the second band, or of none.
@@ -61,39 +58,19 @@ fn second_of(lines: &[f32], row: Row, flag: bool, weighting: u8) -> Shaped
     ensures { result ≡ shaped_second row lines.now flag weighting }
 {
     if row.second.stop == 0 {
-        let filter = none();
-        let gain = absent_gain();
-        return Shaped { filter, gain };
+        Shaped {
+            filter: none(),
+            gain: absent_gain(),
+        }
+    } else {
+        filter_of(lines, row.second, flag, weighting)
     }
-    filter_of(lines, row.second, flag, weighting)
 }
 
 fn count_of(row: Row) -> u8
     ensures { result ≡ count_of row }
 {
     if row.second.stop == 0 { 1 } else { 2 }
-}
-
-// The side data and the gains of a frame: a filter for each band of its row.
-fn bands_of(lines: &[f32], row: Row, flag: bool, weighting: u8) -> Bands
-    requires { LongRow row (length lines.now) }
-    ensures { result ≡ bands_of row lines.now flag weighting }
-{
-    let lower = filter_of(lines, row.first, flag, weighting);
-    let upper = second_of(lines, row, flag, weighting);
-    let filters = count_of(row);
-    let first = lower.filter;
-    let second = upper.filter;
-    let side = SideData {
-        weighting,
-        filters,
-        first,
-        second,
-    };
-    let first = lower.gain;
-    let second = upper.gain;
-    let gains = Gains { first, second };
-    Bands { side, gains }
 }
 
 // The bits of side data at a weighting. The 20 bytes have both filters' orders and indices one after the
@@ -103,9 +80,13 @@ fn side_bits(weighting: u8, side: SideData) -> u16
     requires { SoundSide side.filters (orders_in side) (indices_in side) }
     ensures { result ≡ counted_bits weighting side.filters (orders_in side) (indices_in side) }
 {
-    let all = bytes_of(side);
-    let bytes = &all[0..20];
-    counted_bits(weighting, side.filters, &bytes[2..4], &bytes[4..20])
+    let bytes = bytes_of(side);
+    let side = CheckedSide {
+        filters: side.filters,
+        orders: [bytes[2], bytes[3]],
+        indices: bytes[4..].try_into().unwrap(),
+    };
+    counted_bits(weighting, &side)
 }
 
 // The side data of a frame, their bits, and the gains. The `requires` is what the encode call has checked: the row
@@ -114,9 +95,20 @@ pub fn analyse_frame(lines: &[f32], row: Row, flag: bool, weighting: u8) -> Foun
     requires { LongRow row (length lines.now) }
     ensures { result ≡ frame_found row lines.now flag weighting }
 {
-    let bands = bands_of(lines, row, flag, weighting);
-    let side = bands.side;
-    let gains = bands.gains;
-    let bits = side_bits(weighting, side);
-    Found { bits, side, gains }
+    let first = filter_of(lines, row.first, flag, weighting);
+    let second = second_of(lines, row, flag, weighting);
+    let side = SideData {
+        weighting,
+        filters: count_of(row),
+        first: first.filter,
+        second: second.filter,
+    };
+    Found {
+        bits: side_bits(weighting, side),
+        side,
+        gains: Gains {
+            first: first.gain,
+            second: second.gain,
+        },
+    }
 }

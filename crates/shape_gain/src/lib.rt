@@ -4,10 +4,10 @@
 
 ghost use Rattle.std.specs.Prelude.{◌≡◌};
 ghost use Rattle.shape_gain.specs.Gain.{gain_of, is_on, damping_of, gain_record};
-ghost use Rattle.shape_gain.specs.Gains.{absent_gain, on_number, gain_numbers, on_numbers};
+ghost use Rattle.shape_gain.specs.Gains.{absent_gain, gain_numbers, on_numbers};
 
 // The record of a filter.
-#[derive(Clone, Copy)]
+#[derive(Clone, Copy, Debug, PartialEq)]
 pub struct FilterGain {
     pub gain: f32,
     pub damping: f32,
@@ -16,7 +16,7 @@ pub struct FilterGain {
 
 // The records of a frame's two filters. Where the row has no second band, the second is that of
 // `absent_gain`.
-#[derive(Clone, Copy)]
+#[derive(Clone, Copy, Debug, PartialEq)]
 pub struct Gains {
     pub first: FilterGain,
     pub second: FilterGain,
@@ -27,34 +27,27 @@ pub struct Gains {
 fn gain_of(r0: f32, error: f32) -> f32
     ensures { result ≡ gain_of r0 error }
 {
-    if error == 0.0 {
-        return r0;
-    }
-    r0 / error
+    if error == 0.0 { r0 } else { r0 / error }
 }
 
 #[tactic(auto, unfolding(crate::specs::Gain::is_on))]
 fn is_on(gain: f32, flag: bool) -> bool
     ensures { result ≡ is_on gain flag }
 {
-    if gain > 1.5 {
-        return !flag;
-    }
-    false
+    gain > 1.5 && !flag
 }
 
+// The weighting is a number, here and above, as the side data, the 20 bytes and C have it: what is promised is promised of
+// any, and only 1 weights.
 #[tactic(auto, unfolding(crate::specs::Gain::damping_of))]
 fn damping_of(gain: f32, on: bool, weighting: u8) -> f32
     ensures { result ≡ damping_of gain on weighting }
 {
-    if on {
-        if weighting == 1 {
-            if gain < 2.0 {
-                return 1.0 - (1.0 - 0.85) * (2.0 - gain) / 0.5;
-            }
-        }
+    if on && weighting == 1 && gain < 2.0 {
+        1.0 - (1.0 - 0.85) * (2.0 - gain) / 0.5
+    } else {
+        1.0
     }
-    1.0
 }
 
 // The record of a filter with the near-Nyquist flag, whose lag 0 is `r0` and whose recursion leaves the error `error`.
@@ -83,24 +76,17 @@ pub fn absent_gain() -> FilterGain
 pub fn gain_numbers(gains: Gains) -> [f32; 4]
     ensures { result ≡ gain_numbers gains }
 {
-    let first = gains.first;
-    let second = gains.second;
-    [first.gain, first.damping, second.gain, second.damping]
-}
-
-fn on_number(on: bool) -> u8
-    ensures { result ≡ on_number on }
-{
-    if on { 1 } else { 0 }
+    [
+        gains.first.gain,
+        gains.first.damping,
+        gains.second.gain,
+        gains.second.damping,
+    ]
 }
 
 // Of each filter 1 if it is on, else 0.
 pub fn on_numbers(gains: Gains) -> [u8; 2]
     ensures { result ≡ on_numbers gains }
 {
-    let first = gains.first;
-    let second = gains.second;
-    let a = on_number(first.on);
-    let b = on_number(second.on);
-    [a, b]
+    [u8::from(gains.first.on), u8::from(gains.second.on)]
 }

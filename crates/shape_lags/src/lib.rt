@@ -11,6 +11,7 @@ ghost use Rattle.shape_lags.specs.LagCells.{plain_cell, lag_cell};
 
 use row_bands::Band;
 use shape_sums::lag_sums;
+use std::array::from_fn;
 
 const LAG_WINDOW: [f32; 9] = [
     1.0,
@@ -44,19 +45,10 @@ fn plain_lag(silent: bool, a: [f32; 9], b: [f32; 9], c: [f32; 9], k: usize) -> f
     ensures { result ≡ plain_cell silent a b c k }
 {
     if silent {
-        return silent_lag(k);
+        silent_lag(k)
+    } else {
+        0.0 + quotient(a, k) + quotient(b, k) + quotient(c, k)
     }
-    0.0 + quotient(a, k) + quotient(b, k) + quotient(c, k)
-}
-
-fn normalized(silent: bool, a: [f32; 9], b: [f32; 9], c: [f32; 9]) -> [f32; 9]
-    ensures { result ≡ tab (lag_cell silent a b c) 9 }
-{
-    let mut lags = [0.0; 9];
-    for k in 0..9usize {
-        lags[k] = plain_lag(silent, a, b, c, k) * LAG_WINDOW[k];
-    }
-    lags
 }
 
 // The lags from the sums of the three subbands.
@@ -64,7 +56,7 @@ fn lags_of(a: [f32; 9], b: [f32; 9], c: [f32; 9]) -> [f32; 9]
     ensures { result ≡ tab (lag_cell (eq (at a 0 ⊗ at b 0 ⊗ at c 0) f0) a b c) 9 }
 {
     let silent = a[0] * b[0] * c[0] == 0.0;
-    normalized(silent, a, b, c)
+    from_fn(|k| plain_lag(silent, a, b, c, k) * LAG_WINDOW[k])
 }
 
 // The nine lags of a band. Its three subbands have eight lines or more, all of them there: that is what
@@ -74,12 +66,8 @@ pub fn autocorrelated(lines: &[f32], band: Band) -> [f32; 9]
     requires { Long band (length lines.now) }
     ensures { result ≡ autocorrelation band lines.now }
 {
-    let start = band.start;
-    let first_cut = band.first_cut;
-    let second_cut = band.second_cut;
-    let stop = band.stop;
-    let a = lag_sums(&lines[start..first_cut]);
-    let b = lag_sums(&lines[first_cut..second_cut]);
-    let c = lag_sums(&lines[second_cut..stop]);
+    let a = lag_sums(&lines[band.start..band.first_cut]);
+    let b = lag_sums(&lines[band.first_cut..band.second_cut]);
+    let c = lag_sums(&lines[band.second_cut..band.stop]);
     lags_of(a, b, c)
 }

@@ -5,58 +5,63 @@
 ghost use Rattle.std.specs.Prelude.{◌≡◌, ◌<◌, ◌≤◌};
 ghost use Rattle.shape_recursion.specs.Recursion.{crossed, reflection, next_row, stepped, predicted};
 
+use std::array::from_fn;
+
 // A row of coefficients, and the error that it leaves.
-#[derive(Clone, Copy)]
+#[derive(Clone, Copy, Debug, PartialEq)]
 pub struct Predictor {
     pub row: [f32; 9],
     pub error: f32,
 }
 
+// A float sum is a counted loop, in E's order of operations (docs/DECISIONS.md). The step k is a number with its limit
+// in each contract here: a type of its own would be taken apart again at every index.
+#[tactic(auto, unfolding(crate::specs::Recursion::crossed))]
 fn crossed_sum(r: [f32; 9], row: [f32; 9], k: usize) -> f32
     requires { k ≤ 8 }
     ensures { result ≡ crossed r row k k }
 {
     let mut sum = 0.0;
     for n in 0..k {
-        sum = sum - row[n] * r[k - n];
+        sum -= row[n] * r[k - n];
     }
     sum
 }
 
+#[tactic(auto, unfolding(crate::specs::Recursion::reflection))]
 fn reflected(r: [f32; 9], p: Predictor, k: usize) -> f32
     requires { k ≤ 8 }
     ensures { result ≡ reflection r p k }
 {
-    let row = p.row;
-    let sum = crossed_sum(r, row, k);
-    if p.error != 0.0 {
-        return sum / p.error;
-    }
-    sum
+    let sum = crossed_sum(r, p.row, k);
+    if p.error != 0.0 { sum / p.error } else { sum }
 }
 
 fn next_row(last: [f32; 9], rc: f32, k: usize) -> [f32; 9]
     requires { (0 < k) × (k ≤ 8) }
     ensures { result ≡ next_row last rc k }
 {
-    let mut row = [0.0; 9];
-    row[0] = 1.0;
-    row[k] = rc;
-    for n in 1..k {
-        row[n] = last[n] + rc * last[k - n];
-    }
-    row
+    from_fn(|n| {
+        if n == 0 {
+            1.0
+        } else if n < k {
+            last[n] + rc * last[k - n]
+        } else if n == k {
+            rc
+        } else {
+            0.0
+        }
+    })
 }
 
+#[tactic(auto, unfolding(crate::specs::Recursion::stepped))]
 fn next_step(r: [f32; 9], k: usize, p: Predictor) -> Predictor
     requires { (0 < k) × (k ≤ 8) }
     ensures { result ≡ stepped r k p }
 {
     let rc = reflected(r, p, k);
-    let last = p.row;
-    let row = next_row(last, rc, k);
     Predictor {
-        row,
+        row: next_row(p.row, rc, k),
         error: p.error * (1.0 - rc * rc),
     }
 }
@@ -69,6 +74,7 @@ pub fn predict(r: [f32; 9]) -> Predictor
         row: [1.0, 0.0, 0.0, 0.0, 0.0, 0.0, 0.0, 0.0, 0.0],
         error: r[0],
     };
+    // Written out: with a loop an encoder call takes 3 to 21 percent more instructions.
     let p1 = next_step(r, 1, start);
     let p2 = next_step(r, 2, p1);
     let p3 = next_step(r, 3, p2);

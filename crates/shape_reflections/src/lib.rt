@@ -4,7 +4,9 @@
 ghost use Rattle.std.specs.Prelude.{◌≡◌, ◌<◌, ◌≤◌};
 ghost use Rattle.shape_reflections.specs.Reflections.{power, damped, row_below, reflections};
 
-// x to the e, by running squares, low bit first.
+use std::array::from_fn;
+
+// x to the e, by running squares, low bit first: four turns for the four bits, and no place of a list.
 fn power_of(x: f32, e: usize) -> f32
     ensures { result ≡ power x e }
 {
@@ -13,22 +15,19 @@ fn power_of(x: f32, e: usize) -> f32
     let mut rest = e;
     for _ in 0..4usize {
         if rest % 2 == 1 {
-            product = product * square;
+            product *= square;
         }
-        square = square * square;
-        rest = rest / 2;
+        square *= square;
+        rest /= 2;
     }
     product
 }
 
+// Each coefficient times the power of the damping at its place.
 pub fn damped_row(row: [f32; 9], damping: f32) -> [f32; 9]
     ensures { result ≡ damped row damping }
 {
-    let mut out = [0.0; 9];
-    for k in 0..9usize {
-        out[k] = row[k] * power_of(damping, k);
-    }
-    out
+    from_fn(|k| row[k] * power_of(damping, k))
 }
 
 fn row_below(row: [f32; 9], k: usize) -> [f32; 9]
@@ -37,25 +36,27 @@ fn row_below(row: [f32; 9], k: usize) -> [f32; 9]
 {
     let rc = row[k];
     let e = 1.0 - rc * rc;
-    let mut below = [0.0; 9];
-    for n in 1..k {
-        below[n] = (row[n] - rc * row[k - n]) / e;
-    }
-    below
+    from_fn(|n| {
+        if 0 < n && n < k {
+            (row[n] - rc * row[k - n]) / e
+        } else {
+            0.0
+        }
+    })
 }
 
-// The eight reflection coefficients of a row.
+// The eight reflection coefficients of a row, the last first: each row comes of the one above it, by its number. The
+// hint keeps the step-down in a function of its own, so that no call raises a division by zero (docs/DECISIONS.md,
+// "Speed").
+#[inline(never)]
 pub fn reflected_row(row: [f32; 9]) -> [f32; 8]
     ensures { result ≡ reflections row }
 {
     let mut rc = [0.0; 8];
     let mut down = row;
-    let mut k = 8usize;
-    while k > 0 {
+    for k in (1..9).rev() {
         rc[k - 1] = down[k];
-        let below = row_below(down, k);
-        down = below;
-        k -= 1;
+        down = row_below(down, k);
     }
     rc
 }

@@ -11,20 +11,7 @@ use Rattle.law_rounding.specs.Floats.{◌⊕◌, ◌⊗◌, f0}
 use Rattle.law_lists.specs.Places.{at, tab}
 use Rattle.shape_sums.specs.LagSums.{products, lag_sum}
 use Rattle.shape_sums.specs.PartialSums.{added_cell, sums_to}
-use Rattle.law_lists.proofs.Tab.{length_tab, at_tab, is_tab, elsewhere}
-
-module _ (sums xs : List Float) (n : ℕ) where
-  pub added_none : (j : ℕ) → at sums j ≡ added_cell sums xs n 0 j
-  added_none j = simp (le-ltb j 0 (omega arith))
-
-  pub added_here : (k : ℕ) → at sums k ⊕ at xs n ⊗ at xs (n + k) ≡ added_cell sums xs n (k + 1) k
-  added_here k = simp (lt-ltb k (k + 1) (omega arith))
-
-  pub not_added : (k : ℕ) → at sums k ≡ added_cell sums xs n k k
-  not_added k = simp (le-ltb k k (omega arith))
-
-  pub added_elsewhere : (k j : ℕ) → (j ≡ k → ⊥) → added_cell sums xs n (k + 1) j ≡ added_cell sums xs n k j
-  added_elsewhere k j d = rw (elsewhere k j d)
+use Rattle.law_lists.proofs.Tab.{length_tab, at_tab, is_tab}
 
 -- the first none and the first m + 1 products
 no_products : (xs : List Float) (k m : ℕ) → m ≡ 0 → f0 ≡ products xs k m

@@ -8,16 +8,15 @@ ghost use Rattle.law_lists.specs.Places.{tab};
 ghost use Rattle.shape_sums.specs.LagSums.{lag_sum};
 ghost use Rattle.shape_sums.specs.PartialSums.{added_cell, sums_to};
 
-// A line's products with itself and the lines after it, added to the first m of the nine sums.
-fn line_added(sums: [f32; 9], lines: &[f32], n: usize, m: usize) -> [f32; 9]
+// Adds a line's products with itself and the lines after it to the first m of the nine sums. The loops here count places,
+// as `added_cell` and `sums_to` do: of two lines so far apart an iterator would give one, and the other by its place.
+fn add_line(sums: &mut [f32; 9], lines: &[f32], n: usize, m: usize)
     requires { (m ≤ 9) × (n + m ≤ length lines.now) }
-    ensures { result ≡ tab (added_cell sums lines.now n m) 9 }
+    ensures { sums.new ≡ tab (added_cell sums.old lines.now n m) 9 }
 {
-    let mut added = sums;
     for k in 0..m {
-        added[k] = added[k] + lines[n] * lines[n + k];
+        sums[k] += lines[n] * lines[n + k];
     }
-    added
 }
 
 // The lines that have eight more after them: each has a product at every lag.
@@ -27,8 +26,7 @@ fn whole_sums(lines: &[f32]) -> [f32; 9]
 {
     let mut sums = [0.0; 9];
     for n in 0..lines.len() - 8 {
-        let next = line_added(sums, lines, n, 9);
-        sums = next;
+        add_line(&mut sums, lines, n, 9);
     }
     sums
 }
@@ -42,8 +40,7 @@ pub fn lag_sums(lines: &[f32]) -> [f32; 9]
 {
     let mut sums = whole_sums(lines);
     for n in lines.len() - 8..lines.len() {
-        let next = line_added(sums, lines, n, lines.len() - n);
-        sums = next;
+        add_line(&mut sums, lines, n, lines.len() - n);
     }
     sums
 }

@@ -10,7 +10,7 @@ use side_quantized::Quantized;
 
 // What goes beside the bits: the weighting, the number of filters, and both filters. Where the row has
 // no second band, the second filter is that of `side_quantized::none`.
-#[derive(Clone, Copy)]
+#[derive(Clone, Copy, Debug, PartialEq)]
 pub struct SideData {
     pub weighting: u8,
     pub filters: u8,
@@ -22,35 +22,24 @@ pub struct SideData {
 pub fn bytes_of(side: SideData) -> [u8; 20]
     ensures { result ≡ bytes_in side }
 {
-    let first = side.first;
-    let second = side.second;
-    let i = first.indices;
-    let j = second.indices;
     side_bytes(
-        [side.weighting, side.filters, first.order, second.order],
-        i,
-        j,
+        [
+            side.weighting,
+            side.filters,
+            side.first.order,
+            side.second.order,
+        ],
+        side.first.indices,
+        side.second.indices,
     )
-}
-
-fn joined(first: [f32; 8], second: [f32; 8]) -> [f32; 16]
-    ensures { result ≡ first ++ second }
-{
-    let mut both = [0.0f32; 16];
-    for k in 0..8usize {
-        both[k] = first[k];
-        both[8 + k] = second[k];
-    }
-    both
 }
 
 // The coefficients of both filters.
 pub fn coefficients_of(side: SideData) -> [f32; 16]
     ensures { result ≡ coefficients_in side }
 {
-    let first = side.first;
-    let second = side.second;
-    let q = first.coefficients;
-    let p = second.coefficients;
-    joined(q, p)
+    let mut both = [0.0; 16];
+    both[..8].copy_from_slice(&side.first.coefficients);
+    both[8..].copy_from_slice(&side.second.coefficients);
+    both
 }

@@ -10,8 +10,7 @@ use Rattle.law_lists.proofs.Counted.{none_of_them, one_of_them, two_of_them}
 use Rattle.row_bands.specs.declared.Row.{Row}
 use Rattle.row_bands.proofs.Bands.{SoundRow}
 use Rattle.lattice_lines.specs.Lattice.{at_rest}
-use Rattle.lattice_decoder.specs.DecoderLattice.{line_decoded}
-use Rattle.lattice_decoder.proofs.Idle.{decoder_idle}
+use Rattle.lattice_decoder.specs.DecoderLattice.{line_decoded, decoder_idle}
 use Rattle.lattice_rows.specs.Filters.{Filter, FilteredIn, FilteredRow}
 use Rattle.lattice_rows.proofs.Filters.{none_run, one_run, two_run, at_rest_lem, idle_filter}
 use Rattle.side_decoded.specs.DecoderFilters.{decoder_filter, row_decoded}

@@ -9,9 +9,9 @@ use Rattle.side_split.proofs.row_saved.Reads as row-saved-reads
 use Rattle.side_split.proofs.row_restarted.Kinds as row-restarted-kinds
 use Rattle.side_split.proofs.row_restarted.Reads as row-restarted-reads
 
-row_saved : DeterminedWith 4 row-saved-kinds.ps row-saved-kinds.r row-saved-reads.Post (List Float) (λ κs s. s.1.1.1.1.1.0.now)
+row_saved : DeterminedWith 3 row-saved-kinds.ps row-saved-kinds.r row-saved-reads.Post (List Float) (λ κs s. s.1.1.1.0.now)
 row_saved κs a x y s t p q = (itself p.before q.before, itself p.output q.output)
 
 -- it has no result
-row_restarted : DeterminedWith 4 row-restarted-kinds.ps row-restarted-kinds.r row-restarted-reads.Post (List Float) (λ κs s. s.1.1.1.1.1.0.now)
+row_restarted : DeterminedWith 3 row-restarted-kinds.ps row-restarted-kinds.r row-restarted-reads.Post (List Float) (λ κs s. s.1.1.1.0.now)
 row_restarted κs a x y s t p q = (refl, itself p q)

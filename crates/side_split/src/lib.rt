@@ -7,6 +7,7 @@ ghost use Rattle.std.specs.Prelude.{◌≡◌, ◌++◌, ◌≤◌, length, take
 ghost use Rattle.check_line.proofs.LineChecks.{Ready};
 ghost use Rattle.side_split.specs.SplitRun.{lines_from, SavedRow};
 
+use check_side::CheckedSide;
 use lattice_rows::{row_below_line, row_from_line};
 use row_bands::Row;
 use side_decoded::filters_decoded;
@@ -15,21 +16,19 @@ use side_decoded::filters_decoded;
 // that row, side data, line and output are `Ready`: `save` has just checked them.
 pub fn row_saved(
     row: Row,
-    filters: u8,
-    orders: &[u8],
-    indices: &[u8],
+    side: &CheckedSide,
     spectrum: &[f32],
     output: &mut [f32],
     n: usize,
 ) -> [f32; 8]
-    requires { Ready row filters orders.now indices.now (length spectrum.now) n (length output.old) }
-    ensures { SavedRow n row filters orders.now indices.now spectrum.now output.new result }
+    requires { Ready row side.now.filters side.now.orders side.now.indices (length spectrum.now) n (length output.old) }
+    ensures { SavedRow n row side.now.filters side.now.orders side.now.indices spectrum.now output.new result }
 {
     copy_from(spectrum, 0, output);
     let below = row_below_line(n, row);
-    let before = filters_decoded(below, filters, orders, indices, [0.0; 8], output);
+    let before = filters_decoded(below, side, [0.0; 8], output);
     let rest = row_from_line(n, row);
-    filters_decoded(rest, filters, orders, indices, before, output);
+    filters_decoded(rest, side, before, output);
     before
 }
 
@@ -37,31 +36,28 @@ pub fn row_saved(
 // output are `Ready`: `restart` has just checked them.
 pub fn row_restarted(
     row: Row,
-    filters: u8,
-    orders: &[u8],
-    indices: &[u8],
+    side: &CheckedSide,
     spectrum: &[f32],
     output: &mut [f32],
     n: usize,
     states: [f32; 8],
 )
-    requires { Ready row filters orders.now indices.now (length spectrum.now) n (length output.old) }
-    ensures { output.new ≡ take n output.old ++ lines_from n row filters orders.now indices.now states spectrum.now }
+    requires { Ready row side.now.filters side.now.orders side.now.indices (length spectrum.now) n (length output.old) }
+    ensures { output.new ≡ take n output.old ++ lines_from n row side.now.filters side.now.orders side.now.indices states spectrum.now }
 {
     copy_from(spectrum, n, output);
     let rest = row_from_line(n, row);
-    filters_decoded(rest, filters, orders, indices, states, output);
+    filters_decoded(rest, side, states, output);
 }
 
-// The lines of the spectrum from line n on, into the output.
+// The lines of the spectrum from line n on, into the output. By copy_from_slice save and restart took up to 14
+// percent longer, and the archive would call memmove (docs/DECISIONS.md).
 fn copy_from(spectrum: &[f32], n: usize, output: &mut [f32])
     requires output_len { length output.old ≡ length spectrum.now }
     requires n_in_bounds { n ≤ length spectrum.now }
     ensures { output.new ≡ take n output.old ++ drop n spectrum.now }
 {
-    let mut i = n;
-    while i < output.len() {
+    for i in n..output.len() {
         output[i] = spectrum[i];
-        i += 1;
     }
 }

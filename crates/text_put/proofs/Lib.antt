@@ -1,3 +1,3 @@
 -- The laws that belong to no one function.
-pub mod Texts
+pub mod Pieces
 pub mod Decimals

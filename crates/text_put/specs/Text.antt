@@ -1,8 +1,7 @@
 -- Text in ASCII.
-use Rattle.std.specs.Prelude.{◌≡◌, cond, List, [], ◌∷◌, ◌++◌, ℕ, zero, suc, ◌+◌, ◌/◌, ◌%◌, ltb, length, take}
+use Rattle.std.specs.Prelude.{cond, List, [], ◌∷◌, ◌++◌, ℕ, zero, suc, ◌+◌, ◌/◌, ◌%◌, ltb, take}
 use Prim.Native.Char.{code}
 use Prim.Native.String.{String, [] as []ˢ, ◌∷◌ as ◌∷ˢ◌}
-use Rattle.io.specs.Counts.{IsPrefixLen}
 
 -- the codes of a text
 abbrev pub ascii : String → List ℕ
@@ -22,9 +21,3 @@ decimal n = decimal_in 20 n
 -- a text after some bytes, where there is room for so many in all: what is beyond is left out
 unfoldable pub after : ℕ → List ℕ → List ℕ → List ℕ
 after room bytes text = take room (bytes ++ text)
-
--- A text was put after the first `before` bytes of those found, as much of it as there is room for. There are `count` bytes then, which lie within
--- those that are left.
-pub record Puts (text found : List ℕ) (before count : ℕ) (left : List ℕ) : Type 0 where
-  pub counts : IsPrefixLen count left
-  pub bytes : take count left ≡ after (length found) (take before found) text

@@ -1,56 +1,63 @@
 // The lines of a rescue's report, put into a text one after the other.
-#![tactic(auto)]
+#![tactic(auto, using(text_put::proofs::Pieces::pieces))]
 
+ghost use Rattle.std.specs.Prelude.{◌≡◌};
 ghost use Rattle.check_verdicts.specs.Verdicts.{numbered};
-ghost use Rattle.text_put.specs.Text.{Puts};
+ghost use Rattle.text_put.specs.Text.{after};
 ghost use Rattle.file_rescued.specs.Rescues.{dropped, moved, stray, kept_entries, left_entries};
 ghost use Rattle.text_report.specs.ReportText.{entry_text, report_text};
 
-use text_put::{put, put_decimal, put_numbered};
+use text_put::Text;
 
-// A block that is dropped, with its fault.
-fn put_dropped(place: u64, fault: u8, out: &mut [u8], at: usize) -> usize
-    ensures { Puts (entry_text (dropped place (numbered fault))) out.old at result out.new }
+// A block that is dropped, with its fault, which is a number, as in text_refusal.
+fn put_dropped<const ROOM: usize>(place: u64, fault: u8, out: &mut Text<ROOM>)
+    ensures { out.new ≡ after ROOM out.old (entry_text (dropped place (numbered fault))) }
 {
-    let placed = put_numbered(b"block ", place, out, at);
-    let said = put_numbered(b" dropped ", fault as u64, out, placed);
-    put(b"\n", out, said)
+    out.put_numbered(b"block ", place);
+    out.put_numbered(b" dropped ", u64::from(fault));
+    out.put(b"\n");
 }
 
-// A block that is renumbered.
-fn put_moved(place: u64, old: u64, new: u64, out: &mut [u8], at: usize) -> usize
-    ensures { Puts (entry_text (moved place old new)) out.old at result out.new }
+// A block that is renumbered. It is like `put_counts` of text_summary in form alone: each has texts of its own.
+fn put_moved<const ROOM: usize>(place: u64, old: u64, new: u64, out: &mut Text<ROOM>)
+    ensures { out.new ≡ after ROOM out.old (entry_text (moved place old new)) }
 {
-    let placed = put_numbered(b"block ", place, out, at);
-    let from = put_numbered(b" renumbered ", old, out, placed);
-    let to = put_numbered(b" to ", new, out, from);
-    put(b"\n", out, to)
+    out.put_numbered(b"block ", place);
+    out.put_numbered(b" renumbered ", old);
+    out.put_numbered(b" to ", new);
+    out.put(b"\n");
 }
 
 // A block that is kept: nothing where it has its old number.
-pub fn put_kept(place: u64, old: u64, new: u64, out: &mut [u8], at: usize) -> usize
-    ensures { Puts (report_text (kept_entries place old new)) out.old at result out.new }
+#[tactic(auto, unfolding(crate::specs::ReportText::report_text), using(text_put::proofs::Pieces::pieces))]
+pub fn put_kept<const ROOM: usize>(place: u64, old: u64, new: u64, out: &mut Text<ROOM>)
+    ensures { out.new ≡ after ROOM out.old (report_text (kept_entries place old new)) }
 {
     if old == new {
-        return put(b"", out, at);
+        // a put of nothing, for the reason that stands in text_summary
+        out.put(b"");
+    } else {
+        put_moved(place, old, new, out);
     }
-    put_moved(place, old, new, out, at)
 }
 
 // The bytes behind the last whole block.
-fn put_stray(count: u64, out: &mut [u8], at: usize) -> usize
-    ensures { Puts (entry_text (stray count)) out.old at result out.new }
+fn put_stray<const ROOM: usize>(count: u64, out: &mut Text<ROOM>)
+    ensures { out.new ≡ after ROOM out.old (entry_text (stray count)) }
 {
-    let counted = put_decimal(count, out, at);
-    put(b" stray bytes\n", out, counted)
+    out.put_decimal(count);
+    out.put(b" stray bytes\n");
 }
 
-// So many bytes that are not kept: a block with its fault, or what is no whole block.
-pub fn put_left(place: u64, size: u64, fault: u8, out: &mut [u8], at: usize) -> usize
-    ensures { Puts (report_text (left_entries place size (numbered fault))) out.old at result out.new }
+// So many bytes that are not kept: a block with its fault, or what is no whole block, whose fault is not said. The
+// promise is of any fault, as in text_refusal.
+#[tactic(auto, unfolding(crate::specs::ReportText::report_text), using(text_put::proofs::Pieces::pieces))]
+pub fn put_left<const ROOM: usize>(place: u64, size: u64, fault: u8, out: &mut Text<ROOM>)
+    ensures { out.new ≡ after ROOM out.old (report_text (left_entries place size (numbered fault))) }
 {
     if size < 512 {
-        return put_stray(size, out, at);
+        put_stray(size, out);
+    } else {
+        put_dropped(place, fault, out);
     }
-    put_dropped(place, fault, out, at)
 }

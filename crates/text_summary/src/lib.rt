@@ -1,38 +1,37 @@
 // The one line that sums up a rescue that dropped something. It demands nothing: what there is no room for is
 // left out, as text_put does.
-#![tactic(auto)]
+#![tactic(auto, using(text_put::proofs::Pieces::pieces))]
 
-ghost use Rattle.text_put.specs.Text.{Puts};
+ghost use Rattle.std.specs.Prelude.{◌≡◌};
+ghost use Rattle.text_put.specs.Text.{after};
 ghost use Rattle.text_summary.specs.SummaryText.{kept_text, summary_text};
 
-use text_put::{put, put_numbered};
+use text_put::Text;
 
-// How many of the blocks are kept, and how many records these have.
-fn put_counts(kept: u64, blocks: u64, records: u64, out: &mut [u8], at: usize) -> usize
-    ensures { Puts (kept_text kept blocks records) out.old at result out.new }
+// How many of the blocks are kept, and how many records these have. It is like `put_moved` of text_report in form alone.
+fn put_counts<const ROOM: usize>(kept: u64, blocks: u64, records: u64, out: &mut Text<ROOM>)
+    ensures { out.new ≡ after ROOM out.old (kept_text kept blocks records) }
 {
-    let of = put_numbered(b"kept ", kept, out, at);
-    let among = put_numbered(b" of ", blocks, out, of);
-    let having = put_numbered(b" blocks, ", records, out, among);
-    put(b" records\n", out, having)
+    out.put_numbered(b"kept ", kept);
+    out.put_numbered(b" of ", blocks);
+    out.put_numbered(b" blocks, ", records);
+    out.put(b" records\n");
 }
 
 // The line, or nothing where every block is kept and no bytes are left over.
-pub fn put_summary(
+pub fn put_summary<const ROOM: usize>(
     kept: u64,
     blocks: u64,
     stray: u64,
     records: u64,
-    out: &mut [u8],
-    at: usize,
-) -> usize
-    ensures { Puts (summary_text kept blocks stray records) out.old at result out.new }
+    out: &mut Text<ROOM>,
+)
+    ensures { out.new ≡ after ROOM out.old (summary_text kept blocks stray records) }
 {
-    if kept != blocks {
-        return put_counts(kept, blocks, records, out, at);
+    if kept != blocks || stray != 0 {
+        put_counts(kept, blocks, records, out);
+    } else {
+        // without a put the proof did not close: nothing is known here of how much the text has, and so not that it fits
+        out.put(b"");
     }
-    if stray != 0 {
-        return put_counts(kept, blocks, records, out, at);
-    }
-    put(b"", out, at)
 }

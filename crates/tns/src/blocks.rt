@@ -9,6 +9,7 @@ use block_write::write_block;
 
 // Writes up to twenty records as block `number`, as `block_write::write_block`. A refused call writes
 // nothing.
+#[tactic(auto, using(block_check::proofs::Verdicts::write_few))]
 pub fn tns_block_write(number: u64, records: &[u8], block: &mut [u8; 512]) -> BlockTold
     ensures { TnsBlock (write_verdict number records.now) count_in block.old block.new result }
 {

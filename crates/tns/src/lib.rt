@@ -23,16 +23,17 @@ ghost use Rattle.tns.specs.AtLine.{TnsSaves, TnsRestarts};
 
 use answer_call::{Answer, accepted, refused, told_at_line, told_cost};
 pub use blocks::{tns_block_read, tns_block_write};
-use call_decode::{DecodeAnswer, decode};
-use call_encode::{EncodeAnswer, encode};
+use call_decode::decode;
+use call_encode::encode;
 use call_restart::{restart, save};
-use cost_call::{CostAnswer, cost};
+use cost_call::cost;
 use cost_parts::cost_2048ths;
 pub use rescue::tns_block_rescue;
 use shape_gain::{gain_numbers, on_numbers};
 use side_data::{bytes_of, coefficients_of};
 
 // Decodes a spectrum in place, as `call_decode::decode`. A refused call leaves every line as it was.
+#[tactic(auto, using(answer_call::proofs::Small::decode_place))]
 pub fn tns_decode(
     duration: u8,
     bandwidth: u8,
@@ -46,13 +47,14 @@ pub fn tns_decode(
 {
     let answer = decode(duration, bandwidth, filters, orders, indices, lines);
     match answer {
-        DecodeAnswer::Decoded => accepted(0),
-        DecodeAnswer::Refused(why) => refused(why),
+        Ok(()) => accepted(0),
+        Err(why) => refused(why),
     }
 }
 
 // Decodes a spectrum into an output of the same length, as `call_restart::save`, and writes the eight
 // states as they are before line n. A refused call writes neither.
+#[tactic(auto, using(answer_call::proofs::Small::line_place))]
 pub fn tns_decode_save(
     duration: u8,
     bandwidth: u8,
@@ -74,6 +76,7 @@ pub fn tns_decode_save(
 
 // Writes the output of a spectrum from line n on, as `call_restart::restart`, going on from any eight
 // states. Nothing is written below n, and nothing by a refused call.
+#[tactic(auto, using(answer_call::proofs::Small::line_place))]
 pub fn tns_decode_restart(
     duration: u8,
     bandwidth: u8,
@@ -97,6 +100,7 @@ pub fn tns_decode_restart(
 // 20 bytes of the bits program, its coefficients, gain and damping of the first filter and then of the
 // second, and for each filter 1 if it is on, else 0. A refused one leaves all five lists as they were.
 // `flag` is the near-Nyquist flag.
+#[tactic(auto, using(answer_call::proofs::Small::encode_place))]
 pub fn tns_encode(
     duration: u8,
     bandwidth: u8,
@@ -113,8 +117,8 @@ pub fn tns_encode(
     let encoded = encode(duration, bandwidth, bits, flag, lines);
     let answer = encoded.answer;
     match answer {
-        EncodeAnswer::Refused(why) => refused(why),
-        EncodeAnswer::Bits(n) => {
+        Err(why) => refused(why),
+        Ok(n) => {
             let s = encoded.side;
             *side = bytes_of(s);
             *coefficients = coefficients_of(s);
@@ -127,19 +131,21 @@ pub fn tns_encode(
 }
 
 // The cost of a frame's side data in bits, as `cost_call::cost`.
+#[tactic(auto, using(answer_call::proofs::Small::cost_place))]
 pub fn tns_cost(weighting: u8, filters: u8, orders: &[u8], indices: &[u8]) -> Answer
     ensures answer { result ≡ answer_for its_bits (cost_of weighting filters orders.now indices.now) }
     ensures few { result.bits ≤ 168 }
 {
     let answer = cost(weighting, filters, orders, indices);
     match answer {
-        CostAnswer::Bits(bits) => accepted(bits),
-        CostAnswer::Refused(why) => refused(why),
+        Ok(bits) => accepted(bits),
+        Err(why) => refused(why),
     }
 }
 
 // The same cost, as `cost_parts::cost_2048ths`: the bits, and beside them what each filter costs in 2048ths
 // of a bit, before it is rounded. A refused call leaves both numbers as they were.
+#[tactic(auto, using(answer_call::proofs::Small::cost_place))]
 pub fn tns_cost_2048ths(
     weighting: u8,
     filters: u8,

@@ -1,12 +1,15 @@
--- Each return goes through the tests before it: the length, the codes, the cost layer's checks, the bits.
+-- The tests go one after the other: the length, the codes, the cost layer's checks, the bits.
 use mathlib.Core.Path.{◌≡◌, sym, ◌∙◌, ap}
-use mathlib.Core.Bool.{Bool, false}
+use mathlib.Core.Bool.{Bool, true, false}
+use Rattle.std.proofs.Common.{rules, Result, Ok, Err, is_ok, MatchResult}
 use mathlib.Core.List.{List}
 use Prim.Native.Nat.{ℕ}
 use borrow.Author.Tests.{eq-eqb, ne_eqb}
 use lib.Dec.{eqb}
 use lib.ListN.{length}
-use Rattle.check_verdicts.specs.Verdicts.{Fault, Verdict, accepted, refused, no_fault, unless_refused}
+use Rattle.check_verdicts.specs.Verdicts.{Fault, Verdict, verdict_by, refused, no_fault, unless_refused}
+use Rattle.check_refusals.specs.Refusals.{says}
+use Rattle.check_refusals.specs.declared.Refusal.{Refusal}
 use Rattle.check_side.specs.Sides.{code_checks}
 use Rattle.check_verdicts.proofs.Verdicts.{settle}
 use Rattle.check_side.proofs.Sides.{codes_settle}
@@ -26,6 +29,11 @@ module _ (bytes : List ℕ) where
   abbrev codes : Verdict (Unit {0})
   codes = code_checks (recorded_of bytes).duration (recorded_of bytes).bandwidth no_fault
 
+  -- the bits compared with a cost, where there is one
+  compared : (same : Bool) (r : Result ℕ Refusal) → MatchResult r (λ cost. same ≡ eqb cost (recorded_of bytes).bits) (λ _. same ≡ false) → same ≡ by_bits (verdict_by says r)
+  compared same (Ok cost) e = e
+  compared same (Err why) e = e
+
   module _ (whole : length bytes ≡ 24) where
     codes_first : (v : Verdict (Unit {0})) → v ≡ codes → by_bits (settle v (cost_of_fields (recorded_of bytes).side)) ≡ sound_record bytes
     unfolding sound_record
@@ -41,16 +49,33 @@ module _ (bytes : List ℕ) where
     cost_decides : no_fault ≡ codes → (v : Verdict ℕ) → v ≡ cost_of_fields (recorded_of bytes).side → by_bits v ≡ sound_record bytes
     cost_decides e v f = ap by_bits f ∙ codes_first no_fault e
 
+    -- what the checks of the codes answered
+    module _ (r : Result (Unit {0}) Refusal) (answer : verdict_by says r ≡ codes) where
+      not_sound : is_ok r ≡ false → false ≡ sound_record bytes
+      not_sound = cases r answer
+        where
+          cases : (r : Result (Unit {0}) Refusal) → verdict_by says r ≡ codes → is_ok r ≡ false → false ≡ sound_record bytes
+          cases (Ok u) e h = cc
+          cases (Err why) e h = codes_fail (says why) e
+
+      bits_decide : is_ok r ≡ true → (v : Verdict ℕ) → v ≡ cost_of_fields (recorded_of bytes).side → by_bits v ≡ sound_record bytes
+      bits_decide = cases r answer
+        where
+          cases : (r : Result (Unit {0}) Refusal) → verdict_by says r ≡ codes → is_ok r ≡ true → (v : Verdict ℕ) → v ≡ cost_of_fields (recorded_of bytes).side → by_bits v ≡ sound_record bytes
+          cases (Ok u) e h v f = cost_decides e v f
+          cases (Err why) e h v f = cc
+
 pub returns-then-bytes-ne24 : goal.returns-then-bytes-ne24
 returns-then-bytes-ne24 c = other_length c.args.bytes.now c.if-bytes-ne24.true
 
-pub returns-in-Refused : goal.returns-in-Refused
-returns-in-Refused c = codes_fail c.args.bytes.now c.if-bytes-ne24.false _ c.in-Refused.ensures
+pub returns-then-is_ok : goal.returns-then-is_ok
+returns-then-is_ok c =
+    let bytes = c.args.bytes.now in
+    let passed = sym c.is_ok.ensures.value ∙ c.if-is_ok.true in
+    let m : MatchResult c.cost.result (λ x. c.is_ok_and.result ≡ eqb x (recorded_of bytes).bits) (λ _. c.is_ok_and.result ≡ false) = search rules in
+    compared bytes c.is_ok_and.result c.cost.result m ∙ bits_decide bytes c.if-bytes-ne24.false c.check_codes.result c.check_codes.ensures passed _ c.cost.ensures.answer
 
-pub returns-in-Refused-answer : goal.returns-in-Refused-answer
-returns-in-Refused-answer c = cost_decides c.args.bytes.now c.if-bytes-ne24.false c.in_default.ensures (refused _) c.in-Refused-answer.ensures.answer
-
-pub returns-in-Bits : goal.returns-in-Bits
-returns-in-Bits c =
-    ap (eqb c.in-Bits.bits) c.word_of.ensures
-    ∙ cost_decides c.args.bytes.now c.if-bytes-ne24.false c.in_default.ensures (accepted c.in-Bits.bits) c.in-Bits.ensures.answer
+pub returns-else-is_ok : goal.returns-else-is_ok
+returns-else-is_ok c =
+    let failed = sym c.is_ok.ensures.value ∙ c.if-is_ok.false in
+    c.if-is_ok.false ∙ not_sound c.args.bytes.now c.if-bytes-ne24.false c.check_codes.result c.check_codes.ensures failed

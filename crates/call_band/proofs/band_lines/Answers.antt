@@ -10,8 +10,8 @@ use Rattle.call_band.proofs.band_lines.Goals as goal
 found_fits : (duration bandwidth filter lines : ℕ) (band : Band) → band ≡ asked_band duration bandwidth filter lines → Fits band lines
 found_fits duration bandwidth filter lines band e = subst (λ (b : Band). Fits b lines) (sym e) (asked_fits duration bandwidth filter lines)
 
-pub offset_bounds-lines-start : goal.offset_bounds-lines-start
-offset_bounds-lines-start c =
+pub offset_bounds-lines-asked : goal.offset_bounds-lines-asked
+offset_bounds-lines-asked c =
     let fits = found_fits c.args.duration c.args.bandwidth c.args.filter (length c.args.lines.now) c.asked_band-asked.result c.asked_band-asked.ensures in
     omega (arith, fits)
 

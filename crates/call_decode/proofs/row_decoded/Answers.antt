@@ -2,14 +2,15 @@
 use Rattle.side_decoded.proofs.CountedFilters.{one_idle, all_idle, row_is_decoded}
 use Rattle.call_decode.proofs.row_decoded.Goals as goal
 
-pub returns-then-filters-eq1 : goal.returns-then-filters-eq1
-returns-then-filters-eq1 c =
-    rw c.if-filters-eq1.true (one_idle c.args.row c.args.orders.now c.args.indices.now c.args.lines.now c.requires.sound_row c.if-orders-eq0.true)
+pub returns-then-side-eq1 : goal.returns-then-side-eq1
+returns-then-side-eq1 c =
+    let side = c.args.side.now in
+    rw c.if-side-eq1.true (one_idle c.args.row side.orders side.indices c.args.lines.now c.requires c.if-side-eq0.true)
 
-pub returns-then-orders-eq0-2 : goal.returns-then-orders-eq0-2
-returns-then-orders-eq0-2 c =
-    all_idle c.args.row c.args.orders.now c.args.indices.now c.args.lines.now c.requires.sound_row c.if-orders-eq0.true c.if-orders-eq0-2.true c.args.filters
-    c.requires.sound_side.count_at_most_2
+pub returns-then-side-eq0-2 : goal.returns-then-side-eq0-2
+returns-then-side-eq0-2 c =
+    let side = c.args.side.now in
+    all_idle c.args.row side.orders side.indices c.args.lines.now c.requires c.if-side-eq0.true c.if-side-eq0-2.true side.filters side.few
 
 pub returns : goal.returns
-returns c = row_is_decoded c.args.row c.args.orders.now c.args.indices.now c.args.lines.now c.args.filters _ _ c.filters_decoded.ensures
+returns c = let side = c.args.side.now in row_is_decoded c.args.row side.orders side.indices c.args.lines.now side.filters _ _ c.filters_decoded.ensures

@@ -1,10 +1,13 @@
 -- A frame, side data, a line or an output that is refused; or the lines from the line on.
-use Rattle.std.proofs.Common.{ℕ, List, length}
-use Rattle.std.specs.Prelude.{Float}
+use Rattle.std.proofs.Common.{rules, ◌≡◌, refl, ◌∙◌, ℕ, List, ◌++◌, length, take, sym, subst}
+use Rattle.std.specs.Prelude.{Float, Result, Err}
 use Rattle.check_coded.specs.CodedFrames.{CodedFrame}
 use Rattle.check_coded.proofs.CodedFrames.{frame_refuses, side_refuses, passes}
+use Rattle.check_line.specs.declared.LineRefusal.{LineRefusal}
+use Rattle.check_line.specs.declared.LineRefusal.TheVariants.{Call}
 use Rattle.check_line.proofs.LineChecks.{refused_at_line, line_refuses, line_passes}
-use Rattle.call_restart.proofs.SplitFrames.{refused_restart, restarted}
+use Rattle.side_split.specs.SplitRun.{lines_from}
+use Rattle.call_restart.proofs.SplitFrames.{RestartsFrame, refused_restart, restarted}
 use Rattle.call_restart.proofs.restart.Goals as goal
 
 -- what the call is given
@@ -15,32 +18,42 @@ given duration bandwidth filters orders indices spectrum =
 pub row_restarted-requires : goal.row_restarted-requires
 row_restarted-requires c =
     let f = given c.args.duration c.args.bandwidth c.args.filters c.args.orders.now c.args.indices.now c.args.spectrum.now in
-    (line_passes f c.args.n (length c.args.output.now) (passes f c.in-Sound.is c.check_frame-frame.ensures c.in-Sound-side.is c.check_side-side.ensures) c.in-Sound-line.is c.check_line-line.ensures).ready
+    let its = c.in_ok-side.ensures.given in
+    rw (its.0, its.1, its.2)
+    ((line_passes f c.args.n (length c.args.output.now) (passes f c.in_ok-row.was c.check_frame.ensures c.in_ok-side.was c.check_side.ensures.checked) c.in_ok-check_line.was c.check_line.ensures).ready)
 
-pub returns-in-Refused : goal.returns-in-Refused
-returns-in-Refused c =
+pub returns-in_err-row : goal.returns-in_err-row
+returns-in_err-row c =
     let f = given c.args.duration c.args.bandwidth c.args.filters c.args.orders.now c.args.indices.now c.args.spectrum.now in
-    refused_restart f c.args.n c.args.states.now c.args.output.now
-    (refused_at_line f c.args.n (length c.args.output.now) (frame_refuses f c.in-Refused.is c.check_frame-frame.ensures))
+    let same : c.from_residual.result ≡ Err (Call c.in_err-row.field-0.0) = search rules in
+    subst (λ (r : Result (Unit {0}) LineRefusal). RestartsFrame f c.args.n c.args.states.now c.args.output.now c.args.output.now r) (sym same)
+    (refused_restart f c.args.n c.args.states.now c.args.output.now (refused_at_line f c.args.n (length c.args.output.now) (frame_refuses f c.in_err-row.was c.check_frame.ensures)))
 
-pub returns-in-Refused-side : goal.returns-in-Refused-side
-returns-in-Refused-side c =
+pub returns-in_err-side : goal.returns-in_err-side
+returns-in_err-side c =
     let f = given c.args.duration c.args.bandwidth c.args.filters c.args.orders.now c.args.indices.now c.args.spectrum.now in
-    refused_restart f c.args.n c.args.states.now c.args.output.now
-    (refused_at_line f c.args.n (length c.args.output.now)
-    (side_refuses f c.in-Sound.is c.check_frame-frame.ensures c.in-Refused-side.is c.check_side-side.ensures))
+    let same : c.from_residual-in_err-side.result ≡ Err (Call c.in_err-side.field-0.0) = search rules in
+    subst (λ (r : Result (Unit {0}) LineRefusal). RestartsFrame f c.args.n c.args.states.now c.args.output.now c.args.output.now r) (sym same)
+    (refused_restart f c.args.n c.args.states.now c.args.output.now
+    (refused_at_line f c.args.n (length c.args.output.now) (side_refuses f c.in_ok-row.was c.check_frame.ensures c.in_err-side.was c.check_side.ensures.checked)))
 
-pub returns-in-Refused-line : goal.returns-in-Refused-line
-returns-in-Refused-line c =
+pub returns-in_err-check_line : goal.returns-in_err-check_line
+returns-in_err-check_line c =
     let f = given c.args.duration c.args.bandwidth c.args.filters c.args.orders.now c.args.indices.now c.args.spectrum.now in
-    refused_restart f c.args.n c.args.states.now c.args.output.now
-    (line_refuses f c.args.n (length c.args.output.now)
-    (passes f c.in-Sound.is c.check_frame-frame.ensures c.in-Sound-side.is c.check_side-side.ensures)
-    c.in-Refused-line.is c.check_line-line.ensures)
+    let same : c.from_residual-in_err-check_line.result ≡ Err c.in_err-check_line.field-0.0 = search rules in
+    subst (λ (r : Result (Unit {0}) LineRefusal). RestartsFrame f c.args.n c.args.states.now c.args.output.now c.args.output.now r) (sym same)
+    (refused_restart f c.args.n c.args.states.now c.args.output.now
+    (line_refuses f c.args.n (length c.args.output.now) (passes f c.in_ok-row.was c.check_frame.ensures c.in_ok-side.was c.check_side.ensures.checked) c.in_err-check_line.was c.check_line.ensures))
 
-pub returns-in-Sound-line : goal.returns-in-Sound-line
-returns-in-Sound-line c =
+pub returns : goal.returns
+returns c =
     let f = given c.args.duration c.args.bandwidth c.args.filters c.args.orders.now c.args.indices.now c.args.spectrum.now in
+    let its = c.in_ok-side.ensures.given in
+    let side = c.in_ok-side.side in
+    let same : take c.args.n c.args.output.now ++ lines_from c.args.n c.in_ok-row.row side.filters side.orders side.indices c.args.states.now f.spectrum
+    ≡ take c.args.n c.args.output.now ++ lines_from c.args.n c.in_ok-row.row f.filters f.orders f.indices c.args.states.now f.spectrum =
+    rw (its.0, its.1, its.2) refl
+    in
     restarted f c.args.n c.args.states.now c.args.output.now
-    (line_passes f c.args.n (length c.args.output.now) (passes f c.in-Sound.is c.check_frame-frame.ensures c.in-Sound-side.is c.check_side-side.ensures) c.in-Sound-line.is c.check_line-line.ensures)
-    c.row_restarted.ensures
+    (line_passes f c.args.n (length c.args.output.now) (passes f c.in_ok-row.was c.check_frame.ensures c.in_ok-side.was c.check_side.ensures.checked) c.in_ok-check_line.was c.check_line.ensures)
+    (c.row_restarted.ensures ∙ same)

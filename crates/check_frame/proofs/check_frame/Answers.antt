@@ -1,7 +1,10 @@
 -- What the checks of the codes refuse is refused; what is left is check 3, with the duration's own numbers.
 use mathlib.Core.Path.{◌≡◌, refl, sym, ◌∙◌, ap}
 use Prim.Native.Nat.{ℕ, zero, suc}
-use Rattle.check_verdicts.specs.Verdicts.{Verdict, accepted, refused, no_fault}
+use Rattle.std.proofs.Common.{rules}
+use Rattle.std.specs.Prelude.{Err}
+use Rattle.check_verdicts.specs.Verdicts.{Verdict, accepted, refused, no_fault, verdict_by}
+use Rattle.check_refusals.specs.Refusals.{says}
 use Rattle.check_side.specs.Sides.{code_checks}
 use Rattle.check_verdicts.proofs.Verdicts.{settle}
 use Rattle.check_side.proofs.Sides.{codes_settle}
@@ -31,15 +34,18 @@ seven_point_five : (duration : ℕ) → (duration ≡ 0 → ⊥) → SevenPointF
 seven_point_five zero e = absurd (e refl)
 seven_point_five (suc duration) e = refl
 
+pub returns-in_err-check_codes : goal.returns-in_err-check_codes
+returns-in_err-check_codes c =
+    let why = c.in_err-check_codes.field-0.0 in
+    let same : c.from_residual.result ≡ Err why = search rules in
+    ap (verdict_by says) same ∙ codes_first c.args.duration c.args.bandwidth c.args.lines (refused (says why)) c.in_err-check_codes.ensures
+
 pub returns-then-duration-eq0 : goal.returns-then-duration-eq0
 returns-then-duration-eq0 c =
     c.frame_of.ensures
-    ∙ length_left c.args.duration c.args.bandwidth c.args.lines c.in-Sound.ensures Ten (ten c.args.duration c.if-duration-eq0.true)
+    ∙ length_left c.args.duration c.args.bandwidth c.args.lines c.in_ok-check_codes.ensures Ten (ten c.args.duration c.if-duration-eq0.true)
 
-pub returns-in-Refused : goal.returns-in-Refused
-returns-in-Refused c = codes_first c.args.duration c.args.bandwidth c.args.lines (refused _) c.in-Refused.ensures
-
-pub returns-else-duration-eq0 : goal.returns-else-duration-eq0
-returns-else-duration-eq0 c =
-    c.frame_of-in-Sound.ensures
-    ∙ length_left c.args.duration c.args.bandwidth c.args.lines c.in-Sound.ensures SevenPointFive (seven_point_five c.args.duration c.if-duration-eq0.false)
+pub returns : goal.returns
+returns c =
+    c.frame_of-2.ensures
+    ∙ length_left c.args.duration c.args.bandwidth c.args.lines c.in_ok-check_codes.ensures SevenPointFive (seven_point_five c.args.duration c.if-duration-eq0.false)

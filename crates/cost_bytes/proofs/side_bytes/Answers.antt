@@ -1,32 +1,38 @@
--- After the last turn the three lists stand one after the other.
-use Rattle.std.proofs.Common.{◌≡◌, List, ◌++◌, ℕ, zero, suc, ◌<◌, length, get_or, refl, ◌∙◌, length-append, arith}
-use Rattle.std.proofs.Math.ListN.{set, replicate}
-use Rattle.law_lists.proofs.Joined.{Holds, holds_both, holds_all}
+-- Each list stands behind the one before it, in place of the zeros there.
+use Rattle.std.proofs.Common.{◌≡◌, ◌≤◌, ℕ, List, [], ◌++◌, length, take, drop, refl, sym, ◌∙◌, ap, length-append, length-drop, append_assoc, arith}
+use Rattle.std.proofs.Math.ListN.{replicate, drop_of_length-le}
+use Rattle.std.proofs.lemmas.List.{take_at, drop_at, append-nil}
 use Rattle.cost_bytes.proofs.side_bytes.Goals as goal
 
--- the bytes before the first turn
-abbrev started : List ℕ → List ℕ
-started head = set (set (set (set (replicate 20 0) 0 (get_or head 0 0)) 1 (get_or head 1 0)) 2 (get_or head 2 0)) 3 (get_or head 3 0)
+-- the bytes once two lists are written
+abbrev two : List ℕ → List ℕ → List ℕ → List ℕ
+two head first zeros = take 4 (head ++ zeros) ++ (first ++ drop 8 (drop 4 (head ++ zeros)))
 
--- what holds of 0 to 3
-each_of_four : (P : ℕ → Type 0) → P 0 → P 1 → P 2 → P 3 → (j : ℕ) → j < 4 → P j
-each_of_four P a b c d zero h = a
-each_of_four P a b c d (suc zero) h = b
-each_of_four P a b c d (suc (suc zero)) h = c
-each_of_four P a b c d (suc (suc (suc zero))) h = d
-each_of_four P a b c d (suc (suc (suc (suc j)))) h = absurd (omega arith)
+module _ (head first zeros : List ℕ) (four : length head ≡ 4) (eight : length first ≡ 8) (sixteen : length zeros ≡ 16) where
+  two_stand : two head first zeros ≡ (head ++ first) ++ drop 8 zeros
+  two_stand = rw (take_at head zeros 4 four, drop_at head zeros 4 four) (sym (append_assoc head first (drop 8 zeros)))
+
+  twelve : length (head ++ first) ≡ 12
+  twelve = omega (arith, length-append head first)
+
+  two_long : 20 ≤ length (two head first zeros)
+  two_long = rw two_stand (omega (arith, twelve, length-append (head ++ first) (drop 8 zeros), length-drop 8 zeros))
+
+  all_stand : (second : List ℕ) → take 12 (two head first zeros) ++ (second ++ drop 8 (drop 12 (two head first zeros))) ≡ head ++ (first ++ second)
+  all_stand second =
+      let few : length (drop 8 zeros) ≤ 8 = omega (arith, length-drop 8 zeros) in
+      let none : drop 8 (drop 8 zeros) ≡ [] = drop_of_length-le (drop 8 zeros) few in
+      rw (two_stand, take_at (head ++ first) (drop 8 zeros) 12 twelve, drop_at (head ++ first) (drop 8 zeros) 12 twelve, none, append-nil second)
+      (append_assoc head first second)
+
+pub slice_bounds-bytes-end-3 : goal.slice_bounds-bytes-end-3
+slice_bounds-bytes-end-3 c =
+    let eight : length c.copy_from_slice-2.new.self ≡ 8 = ap length c.copy_from_slice-2.ensures.after ∙ omega arith in
+    two_long c.copy_from_slice.new.self c.copy_from_slice-2.new.self (replicate 16 0) c.copy_from_slice.ensures.len eight refl
 
 pub returns : goal.returns
 returns c =
-    let l = c.loop-k in
-    let head = c.args.head in
-    let xs = c.args.first in
-    let ys = c.args.second in
-    let e : l.k ≡ 8 = omega arith in
-    let o : length head ≡ 4 = omega arith in
-    let p : length xs ≡ 8 = omega arith in
-    let q : length ys ≡ 8 = omega arith in
-    let four : Holds 0 l.bytes 0 head 4 = λ j h. l.invariant.2 j h ∙ each_of_four (λ j. get_or (started head) j 0 ≡ get_or head j 0) refl refl refl refl j h in
-    let both = holds_both 0 l.bytes 4 xs ys 8 8 p (rw e at l.invariant.3) (rw e at l.invariant.4) in
-    holds_all 0 l.bytes (head ++ (xs ++ ys)) 20 l.invariant.1 (length-append head (xs ++ ys) ∙ omega (arith, length-append xs ys))
-    (holds_both 0 l.bytes 0 head (xs ++ ys) 4 16 o four both)
+    let four : length c.args.head ≡ 4 = omega arith in
+    let eight : length c.args.first ≡ 8 = omega arith in
+    rw (c.copy_from_slice.ensures.after, c.copy_from_slice-2.ensures.after, c.copy_from_slice-3.ensures.after)
+    (all_stand c.args.head c.args.first (replicate 16 0) four eight refl c.args.second)

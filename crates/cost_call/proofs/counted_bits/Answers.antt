@@ -1,11 +1,12 @@
 -- Two filters that are off cost a bit each; of the others each takes its bits, rounded up on their own.
-use Rattle.std.proofs.Common.{◌≡◌, List, ℕ, zero, suc, ◌*◌, ◌≤◌, length, get_or, take, drop, refl, sym, ◌∙◌, ap, add-one, arith}
+use Rattle.std.proofs.Common.{rules, [], ◌∷◌, ◌++◌, length-append, ◌≡◌, List, ℕ, zero, suc, ◌*◌, ◌≤◌, length, get_or, take, drop, refl, sym, ◌∙◌, ap, arith}
 use Rattle.std.proofs.Math.ListN.{get_or-eq_default}
 use Rattle.law_lists.specs.Counted.{counted, total}
+use Rattle.check_side.proofs.Sides.{checked_sound}
 use Rattle.cost_filter.specs.FilterCost.{whole_bits, filter_bits}
 use Rattle.cost_call.specs.Cost.{counted_bits}
 use Rattle.cost_call.proofs.Costs.{one_more, all_off}
-use Rattle.cost_call.proofs.AtPlace.{priceable_from, cost_at, few_at}
+use Rattle.cost_call.proofs.AtPlace.{turn_at, cost_at}
 use Rattle.cost_call.proofs.counted_bits.Goals as goal
 
 -- both of two orders are 0, so every order is
@@ -16,36 +17,60 @@ no_order orders two first second (suc (suc i)) =
     let past : length orders ≤ suc (suc i) = omega arith in
     get_or-eq_default orders 0 past
 
-pub returns-then-orders-eq0-2 : goal.returns-then-orders-eq0-2
-returns-then-orders-eq0-2 c =
+pub returns-then-side-eq0-2 : goal.returns-then-side-eq0-2
+returns-then-side-eq0-2 c =
     let g = c.args in
-    sym (all_off g.weighting g.filters g.orders.now g.indices.now (no_order g.orders.now c.requires.two_orders c.if-orders-eq0.true c.if-orders-eq0-2.true))
+    let side = g.side.now in
+    let two : length side.orders ≡ 2 = search rules in
+    let sound = checked_sound side two (search rules) in
+    sym (all_off g.weighting side.filters side.orders side.indices (no_order side.orders two c.if-side-eq0.true c.if-side-eq0-2.true))
 
-pub loop-filter-init : goal.loop-filter-init
+pub loop-order-init : goal.loop-order-init
 unfolding counted_bits counted total
-loop-filter-init c = (omega arith, refl, omega arith)
+loop-order-init c = record { all = refl; few = omega arith }
 
 pub filter_cost-cost-requires : goal.filter_cost-cost-requires
 filter_cost-cost-requires c =
     let g = c.args in
-    priceable_from g.filters g.orders.now g.indices.now c.requires (8 * c.loop-filter.filter) (omega arith) _ c.coef_costs-costs.ensures
+    let side = g.side.now in
+    let two : length side.orders ≡ 2 = search rules in
+    let sound = checked_sound side two (search rules) in
+    let l = c.loop-order in
+    let turn =
+    turn_at side.filters side.orders side.indices sound l.yielded c.into_iter-order-iterator.result l.order-iterator c.next.new.self (search rules) (search rules) l.yielded_by c.in-Some.order c.in-Some.eight c.in-Some.ensures.steps
+    in
+    turn.at_most_16
 
 -- the cost of the filter at its place is small
 pub whole_bits-bits-requires : goal.whole_bits-bits-requires
 whole_bits-bits-requires c =
     let g = c.args in
-    few_at g.filters g.orders.now g.indices.now c.requires c.loop-filter.filter g.weighting _ c.filter_cost-cost.ensures
+    let side = g.side.now in
+    let two : length side.orders ≡ 2 = search rules in
+    let sound = checked_sound side two (search rules) in
+    let l = c.loop-order in
+    let turn =
+    turn_at side.filters side.orders side.indices sound l.yielded c.into_iter-order-iterator.result l.order-iterator c.next.new.self (search rules) (search rules) l.yielded_by c.in-Some.order c.in-Some.eight c.in-Some.ensures.steps
+    in
+    c.filter_cost-cost.ensures.few turn.at_most_8
 
-pub loop-filter-preserved : goal.loop-filter-preserved
+pub loop-order-preserved : goal.loop-order-preserved
 unfolding filter_bits
-loop-filter-preserved c =
-    let l = c.loop-filter in
+loop-order-preserved c =
     let g = c.args in
-    let one = cost_at g.filters g.orders.now g.indices.now c.requires l.filter g.weighting _ c.filter_cost-cost.ensures in
-    let its_bits : c.whole_bits-bits.result ≡ filter_bits g.weighting (get_or g.orders.now l.filter 0) (take 8 (drop (8 * l.filter) g.indices.now)) =
+    let side = g.side.now in
+    let two : length side.orders ≡ 2 = search rules in
+    let sound = checked_sound side two (search rules) in
+    let l = c.loop-order in
+    let turn =
+    turn_at side.filters side.orders side.indices sound l.yielded c.into_iter-order-iterator.result l.order-iterator c.next.new.self (search rules) (search rules) l.yielded_by c.in-Some.order c.in-Some.eight c.in-Some.ensures.steps
+    in
+    let one = cost_at side.filters side.orders side.indices (length l.yielded) c.in-Some.order.now c.in-Some.eight.now turn g.weighting _ c.filter_cost-cost.ensures in
+    let its_bits : c.whole_bits-bits.result ≡ filter_bits g.weighting (get_or side.orders (length l.yielded) 0) (take 8 (drop (8 * length l.yielded) side.indices)) =
     c.whole_bits-bits.ensures.bits ∙ ap whole_bits one
-    in (
-      omega arith,
-      rw add-one (omega (arith, l.invariant.1, its_bits, one_more g.weighting l.filter g.orders.now g.indices.now)),
-      omega (arith, l.invariant.2, c.whole_bits-bits.ensures.few),
-    )
+    in
+    let more : length (l.yielded ++ (c.in-Some.order, c.in-Some.eight) ∷ []) ≡ suc (length l.yielded) = omega (arith, length-append l.yielded ((c.in-Some.order, c.in-Some.eight) ∷ [])) in
+    rw more (record {
+      all = omega (arith, l.invariant.all, its_bits, one_more g.weighting (length l.yielded) side.orders side.indices);
+      few = omega (arith, l.invariant.few, c.whole_bits-bits.ensures.few);
+    })

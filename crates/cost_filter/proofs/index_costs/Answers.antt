@@ -9,7 +9,7 @@ use Rattle.cost_filter.proofs.index_costs.Goals as goal
 
 pub loop-place-init : goal.loop-place-init
 unfolding index_costs rest
-loop-place-init c = (omega arith, omega arith)
+loop-place-init c = omega arith
 
 pub overflow_add-sum : goal.overflow_add-sum
 unfolding index_costs
@@ -19,7 +19,7 @@ overflow_add-sum c =
     let indices = c.args.indices.now in
     omega (
       arith,
-      l.invariant.1,
+      l.invariant,
       c.coef_bits-cost.ensures,
       there order indices l.place (omega arith) (omega arith),
       index_costs_at_most 0 (take order indices),
@@ -30,4 +30,4 @@ pub loop-place-preserved : goal.loop-place-preserved
 loop-place-preserved c = grind (arith, common_steps, there, not_there)
 
 pub returns : goal.returns
-returns c = omega (arith, c.loop-place.invariant.1, past_last c.args.order c.args.indices.now c.loop-place.place (omega arith))
+returns c = omega (arith, c.loop-place.invariant, past_last c.args.order c.args.indices.now c.loop-place.place (omega arith))

@@ -1,18 +1,16 @@
-use Rattle.std.proofs.Common.{arith}
-use Rattle.file_kept.proofs.KeptFrom.{one_kept, one_left, none_left}
+-- The blocks that `chunks` gives and that the check keeps.
+use Rattle.std.proofs.Common.{rules, ◌∙◌, ap, arith}
+use Rattle.std.proofs.lemmas.Iterator.Consumers.{YieldsList-from_filter, count_from_yields_List}
+use Rattle.std.specs.Slice.Iter.{chunks_rest, chunks_size}
+use Rattle.law_lists.specs.Portions.{portions}
+use Rattle.law_lists.proofs.Chunks.{chunks_yield}
+use Rattle.file_rescued.proofs.Portioned.{file_portions}
+use Rattle.file_kept.proofs.KeptFrom.{is_kept, kept_told, kept_counted}
 use Rattle.file_kept.proofs.count_kept.Goals as goal
 
-pub loop-from-preserved-in-Kept : goal.loop-from-preserved-in-Kept
-loop-from-preserved-in-Kept c =
-    let ends = c.least-end.ensures in
-    let one = one_kept c.args.bytes.now c.loop-from.from c.least-end.result (omega arith) ends _ c.in-Kept.ensures in
-    record { inside = omega (arith, ends); few = omega (arith, ends); so_far = omega (arith, one, c.loop-from.invariant.so_far) }
-
-pub loop-from-preserved : goal.loop-from-preserved
-loop-from-preserved c =
-    let ends = c.least-end.ensures in
-    let one = one_left c.args.bytes.now c.loop-from.from c.least-end.result (omega arith) ends _ c.in_default.ensures in
-    record { inside = omega (arith, ends); few = omega (arith, ends); so_far = omega (arith, one, c.loop-from.invariant.so_far) }
-
 pub returns : goal.returns
-returns c = omega (arith, none_left c.args.bytes.now c.loop-from.from (omega arith), c.loop-from.invariant.so_far)
+returns c =
+    let bytes = c.args.bytes.now in
+    let its = chunks_yield 512 (omega arith) _ bytes (ap chunks_rest c.filter.ensures.source ∙ c.chunks.ensures.rest) (ap chunks_size c.filter.ensures.source ∙ c.chunks.ensures.size) in
+    count_from_yields_List _ _ c.count.ensures.ran (YieldsList-from_filter _ is_kept its c.filter.ensures.closure (λ x b q k. search (rules, kept_told)))
+    ∙ kept_counted (portions 512 bytes) (file_portions bytes (λ i. omega (arith, c.type_inv.bytes i)))

@@ -1,24 +1,29 @@
-use Rattle.std.proofs.Common.{arith}
-use Rattle.file_kept.proofs.RecordsFrom.{first_records, first_block, none_left}
+-- The counts of the blocks that `chunks` gives, and their sum.
+use Rattle.std.proofs.Common.{rules, ◌∙◌, ◌<◌, ◌+◌, ◌^◌, ◌/◌, ap, arith, sum_by, length}
+use Rattle.std.proofs.lemmas.Iterator.{YieldsList-from_map}
+use Rattle.std.proofs.lemmas.Iterator.Consumers.{sum_by_from_yields_List, fits_by_from_yields_list}
+use Rattle.std.specs.Slice.Iter.{chunks_rest, chunks_size}
+use Rattle.law_lists.specs.Portions.{portions}
+use Rattle.law_lists.proofs.Chunks.{chunks_yield}
+use Rattle.block_parts.specs.Parts.{count_in}
+use Rattle.file_narration.proofs.Cuts.{portions_at_most}
+use Rattle.file_rescued.proofs.Portioned.{file_portions}
+use Rattle.file_kept.proofs.RecordsFrom.{sum_is_total, few_in}
 use Rattle.file_kept.proofs.count_records.Goals as goal
 
-pub loop-from-preserved : goal.loop-from-preserved
-loop-from-preserved c =
-    let l = c.loop-from in
-    let ends = c.least-end.ensures in
-    let counted = c.count_in-count.ensures in
-    let records = first_records c.args.bytes.now l.from c.least-end.result (omega arith) ends in
-    let blocks = first_block c.args.bytes.now l.from c.least-end.result (omega arith) ends in
-    record {
-      inside = omega (arith, ends);
-      so_far = omega (arith, counted.0, records, l.invariant.so_far);
-      few = omega (arith, counted.1, blocks, l.invariant.few);
-      fits = λ h. omega (arith, counted.1, ends, l.invariant.fits (omega arith));
-    }
+pub sum-requires-clause-fits : goal.sum-requires-clause-fits
+sum-requires-clause-fits c =
+    let bytes = c.args.bytes.now in
+    let few = few_in (portions 512 bytes) (file_portions bytes (λ i. omega (arith, c.type_inv.bytes i))) in
+    let blocks = portions_at_most 512 (omega arith) (length bytes / 512 + 1) bytes (omega arith) in
+    let small : sum_by count_in (portions 512 bytes) < 2 ^ 64 = omega (arith, sum_is_total (portions 512 bytes), few, blocks) in
+    let its = chunks_yield 512 (omega arith) _ bytes (ap chunks_rest c.map.ensures.source ∙ c.chunks.ensures.rest) (ap chunks_size c.map.ensures.source ∙ c.chunks.ensures.size) in
+    fits_by_from_yields_list count_in (portions 512 bytes) _ _ (YieldsList-from_map _ count_in its c.map.ensures.closure (λ x r q k. search rules)) small
 
 pub returns : goal.returns
 returns c =
-    record {
-      so_many = omega (arith, none_left c.args.bytes.now c.loop-from.from (omega arith), c.loop-from.invariant.so_far);
-      few = omega (arith, c.loop-from.invariant.few);
-    }
+    let bytes = c.args.bytes.now in
+    let few = few_in (portions 512 bytes) (file_portions bytes (λ i. omega (arith, c.type_inv.bytes i))) in
+    let its = chunks_yield 512 (omega arith) _ bytes (ap chunks_rest c.map.ensures.source ∙ c.chunks.ensures.rest) (ap chunks_size c.map.ensures.source ∙ c.chunks.ensures.size) in
+    let many = sum_by_from_yields_List count_in (portions 512 bytes) _ _ c.sum.ensures.ran (YieldsList-from_map _ count_in its c.map.ensures.closure (λ x r q k. search rules)) ∙ sum_is_total (portions 512 bytes) in
+    record { so_many = many; few = omega (arith, many, few) }

@@ -1,16 +1,10 @@
--- Nothing is passed at first; each place passed is counted as the definition counts it; past the last what was found is the order.
-use Rattle.std.proofs.Common.{refl, arith}
-use Rattle.std.proofs.lemmas.Grind.{common_steps}
-use Rattle.index_choice.specs.Indices.{order_of}
-use Rattle.index_choice.proofs.OrderOf.{here_is_8, here_is_not, at_end}
+-- The place that is found is the last whose index is not 8; if none is found, all are 8.
+use Rattle.std.proofs.Common.{rules, sym}
+use Rattle.index_choice.proofs.OrderOf.{order_none, order_last}
 use Rattle.index_choice.proofs.order_of.Goals as goal
 
-pub loop-k-init : goal.loop-k-init
-unfolding order_of
-loop-k-init c = (omega arith, refl)
+pub returns-in-Some : goal.returns-in-Some
+returns-in-Some c = sym (order_last c.args.indices c.in-Some.place (search rules) (search rules) (λ k l h. search rules))
 
-pub loop-k-preserved : goal.loop-k-preserved
-loop-k-preserved c = grind (arith, common_steps, here_is_8, here_is_not)
-
-pub returns : goal.returns
-returns c = grind (arith, common_steps, at_end)
+pub returns-in-None : goal.returns-in-None
+returns-in-None c = sym (order_none c.args.indices (λ k l. search rules))

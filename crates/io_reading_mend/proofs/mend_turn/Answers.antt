@@ -1,26 +1,22 @@
 -- Whatever the read gives is answered, written as far as can be, counted as a read, and added up.
-use Rattle.std.proofs.Common.{arith}
-use Rattle.io_reading_mend.proofs.MendTurns.{still_in_range, written_in_range, one_turn, turns}
+use Rattle.std.proofs.Common.{sym, subst, arith}
+use Rattle.io_reading_mend.proofs.MendTurns.{Settled, records_counted, still_in_range, one_turn, turns}
 use Rattle.io_reading_mend.proofs.mend_turn.Goals as goal
 
-pub added-requires : goal.added-requires
-added-requires c =
-    let standing = c.args.mending.standing in
-    let turned = c.answered-turned in
-    let read = c.read_named-got in
-    let range = still_in_range standing read.new.piece _ _ _ turned.result c.requires.4 c.requires.5 read.result (omega arith) read.ensures.within turned.ensures in
-    (omega (arith, c.requires.4, c.requires.7), omega (arith, range.few, range.kept))
+pub settled-stands-requires-clause-few : goal.settled-stands-requires-clause-few
+settled-stands-requires-clause-few c =
+    let read = c.read-got in
+    let came = c.answered-came in
+    records_counted c.args.mending read.new.piece _ _ _ c.requires.kept c.requires.unwhole read.result came.result came.ensures (omega arith) read.ensures.within
 
 pub returns : goal.returns
 returns c =
     let mending = c.args.mending in
-    let standing = mending.standing in
-    let turned = c.answered-turned in
-    let read = c.read_named-got in
-    let written = c.is_put-is_written.result in
-    let stands = c.after_write-settled in
-    let next = c.after_read-next in
-    let range = written_in_range written standing turned.result.records turned.result.standing stands.result stands.ensures
-    (still_in_range standing read.new.piece _ _ _ turned.result c.requires.4 c.requires.5 read.result (omega arith) read.ensures.within turned.ensures) in
-    turns mending turned.result stands.result next.result next.ensures c.requires.7 range c.added.result c.added.ensures
-    (one_turn mending turned.result stands.result next.result next.ensures read.result read.new.piece _ _ _ written c.added.result turned.ensures stands.ensures c.added.ensures)
+    let read = c.read-got in
+    let came = c.answered-came in
+    let stands = c.settled-stands in
+    let written = stands.ensures.0 in
+    let next = c.after_read in
+    let range = still_in_range mending read.new.piece _ _ _ c.requires.kept c.requires.unwhole c.requires.few read.result came.result came.ensures (omega arith) read.ensures.within written in
+    turns mending stands.result next.result next.ensures.counted (subst (Settled mending) (sym stands.ensures.1) range) next.ensures.left
+    (one_turn mending stands.result next.result next.ensures.counted read.result read.new.piece _ _ _ came.result written came.ensures stands.ensures.1)

@@ -5,7 +5,7 @@ use Rattle.prog_bits.proofs.main.Given as goal
 
 abbrev pub invariant-loop-standing : goal.invariant-loop-standing
 invariant-loop-standing l =
-    (length l.input ≡ 16000) × (length l.output ≡ 65536) × (l.standing.frame ≤ 800 * l.standing.reads) × (l.standing.held < 20)
+    (length l.input ≡ 16000) × (l.standing.number ≤ 800 * l.standing.reads) × (l.standing.held < 20)
     × (l.standing.goes_on ≡ true → l.standing.reads < most_reads)
 
 abbrev pub decreases-loop-standing : goal.decreases-loop-standing

@@ -27,10 +27,10 @@ module _ (row : Row) (lines : List Float) (flag : Bool) (weighting : ℕ) where
 pub returns-then-row-eq0 : goal.returns-then-row-eq0
 returns-then-row-eq0 c =
     let g = c.args in
-    no_second g.row g.lines.now g.flag g.weighting c.none-filter.result c.absent_gain-gain.result
-    c.none-filter.ensures c.absent_gain-gain.ensures c.if-row-eq0.true
+    no_second g.row g.lines.now g.flag g.weighting c.none.result c.absent_gain.result
+    c.none.ensures c.absent_gain.ensures c.if-row-eq0.true
 
-pub returns : goal.returns
-returns c =
+pub returns-else-row-eq0 : goal.returns-else-row-eq0
+returns-else-row-eq0 c =
     let g = c.args in
     c.filter_of.ensures ∙ has_second_lem g.row g.lines.now g.flag g.weighting c.if-row-eq0.false

@@ -14,7 +14,7 @@ pub loop-n-preserved : goal.loop-n-preserved
 loop-n-preserved c =
     let l = c.loop-n in
     let xs = c.args.lines.now in
-    c.line_added-next.ensures ∙ ap (λ (s : List Float). tab (added_cell s xs l.n (length xs - l.n)) 9) l.invariant
+    c.add_line.ensures ∙ ap (λ (s : List Float). tab (added_cell s xs l.n (length xs - l.n)) 9) l.invariant
     ∙ sums_more xs l.n (length xs - l.n) (omega arith) (omega arith)
 
 pub returns : goal.returns

@@ -8,4 +8,4 @@ pub returns : goal.returns
 unfolding filtered_by
 returns c =
     let g = c.args in
-    two_filtered line_encoded g.row g.lines.now _ _ _ _ _ _ c.first_encoded-states.ensures c.second_encoded.ensures
+    two_filtered line_encoded g.row g.lines.now _ _ _ _ _ _ c.unless_idle-states.ensures c.unless_idle.ensures
