@@ -2,6 +2,9 @@
 -- side data that are refused make of the call, whatever checks follow, and what is known once both are sound. And what a call leaves of a list that
 -- was lent to it.
 use mathlib.Core.Path.{◌≡◌, refl, sym, ◌∙◌, ap}
+use mathlib.Core.List.{List}
+use Prim.Native.Nat.{ℕ}
+use lib.Ieee.{Float}
 use lib.ListN.{length}
 use Rattle.std.specs.Prelude.{Result, Ok, Err}
 use Rattle.check_verdicts.specs.Verdicts.{Fault, Verdict, accepted, refused, unless_refused, on_accepted, no_fault, verdict_by}
@@ -16,6 +19,11 @@ use Rattle.row_bands.proofs.Bands.{SoundRow}
 use Rattle.check_frame.specs.Frames.{frame_checks, frame_of}
 use Rattle.check_frame.proofs.Frames.{frames_settle, refused_frame, passed_frame, sound_row, accepted_row}
 use Rattle.check_coded.specs.CodedFrames.{CodedFrame, row_in, checks_of}
+
+-- what a call is given, as one thing
+abbrev pub given : ℕ → ℕ → ℕ → List ℕ → List ℕ → List Float → CodedFrame
+given duration bandwidth filters orders indices spectrum =
+    record { duration = duration; bandwidth = bandwidth; filters = filters; orders = orders; indices = indices; spectrum = spectrum }
 
 -- ---- what a call leaves
 

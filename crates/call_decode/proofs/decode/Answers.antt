@@ -1,17 +1,11 @@
 -- A frame that is refused, side data that are refused, or the decoded spectrum.
-use Rattle.std.proofs.Common.{rules, ◌≡◌, refl, ◌∙◌, ℕ, List, sym, subst}
-use Rattle.std.specs.Prelude.{Float, Result, Err}
+use Rattle.std.proofs.Common.{rules, ◌≡◌, refl, ◌∙◌, sym, subst}
+use Rattle.std.specs.Prelude.{Result, Err}
 use Rattle.check_refusals.specs.declared.Refusal.{Refusal}
-use Rattle.check_coded.specs.CodedFrames.{CodedFrame}
-use Rattle.check_coded.proofs.CodedFrames.{frame_refuses, side_refuses, passes}
+use Rattle.check_coded.proofs.CodedFrames.{given, frame_refuses, side_refuses, passes}
 use Rattle.side_decoded.specs.DecoderFilters.{row_decoded}
 use Rattle.call_decode.proofs.DecodedFrames.{DecodesFrame, refused_decode, decoded}
 use Rattle.call_decode.proofs.decode.Goals as goal
-
--- what the call is given
-abbrev given : ℕ → ℕ → ℕ → List ℕ → List ℕ → List Float → CodedFrame
-given duration bandwidth filters orders indices lines =
-    record { duration = duration; bandwidth = bandwidth; filters = filters; orders = orders; indices = indices; spectrum = lines }
 
 pub row_decoded-requires : goal.row_decoded-requires
 row_decoded-requires c =

@@ -1,19 +1,13 @@
 -- A frame, side data, a line or an output that is refused; or the lines from the line on.
-use Rattle.std.proofs.Common.{rules, ◌≡◌, refl, ◌∙◌, ℕ, List, ◌++◌, length, take, sym, subst}
-use Rattle.std.specs.Prelude.{Float, Result, Err}
-use Rattle.check_coded.specs.CodedFrames.{CodedFrame}
-use Rattle.check_coded.proofs.CodedFrames.{frame_refuses, side_refuses, passes}
+use Rattle.std.proofs.Common.{rules, ◌≡◌, refl, ◌∙◌, ◌++◌, length, take, sym, subst}
+use Rattle.std.specs.Prelude.{Result, Err}
+use Rattle.check_coded.proofs.CodedFrames.{given, frame_refuses, side_refuses, passes}
 use Rattle.check_line.specs.declared.LineRefusal.{LineRefusal}
 use Rattle.check_line.specs.declared.LineRefusal.TheVariants.{Call}
 use Rattle.check_line.proofs.LineChecks.{refused_at_line, line_refuses, line_passes}
 use Rattle.side_split.specs.SplitRun.{lines_from}
 use Rattle.call_restart.proofs.SplitFrames.{RestartsFrame, refused_restart, restarted}
 use Rattle.call_restart.proofs.restart.Goals as goal
-
--- what the call is given
-abbrev given : ℕ → ℕ → ℕ → List ℕ → List ℕ → List Float → CodedFrame
-given duration bandwidth filters orders indices spectrum =
-    record { duration = duration; bandwidth = bandwidth; filters = filters; orders = orders; indices = indices; spectrum = spectrum }
 
 pub row_restarted-requires : goal.row_restarted-requires
 row_restarted-requires c =

@@ -1,8 +1,7 @@
 -- A frame, side data, a line or an output that is refused; or the decoded spectrum with the states before the line.
-use Rattle.std.proofs.Common.{rules, ◌≡◌, ℕ, List, length, sym, subst}
-use Rattle.std.specs.Prelude.{Float, Result, Err}
-use Rattle.check_coded.specs.CodedFrames.{CodedFrame}
-use Rattle.check_coded.proofs.CodedFrames.{frame_refuses, side_refuses, passes}
+use Rattle.std.proofs.Common.{rules, ◌≡◌, length, sym, subst}
+use Rattle.std.specs.Prelude.{Result, Err}
+use Rattle.check_coded.proofs.CodedFrames.{given, frame_refuses, side_refuses, passes}
 use Rattle.check_line.specs.declared.LineRefusal.{LineRefusal}
 use Rattle.check_line.specs.declared.LineRefusal.TheVariants.{Call}
 use Rattle.check_line.proofs.LineChecks.{refused_at_line, line_refuses, line_passes}
@@ -10,11 +9,6 @@ use Rattle.side_split.specs.SplitRun.{SavedRow}
 use Rattle.call_restart.specs.Restart.{lent_at_line}
 use Rattle.call_restart.proofs.SplitFrames.{SavesFrame, refused_save, saved}
 use Rattle.call_restart.proofs.save.Goals as goal
-
--- what the call is given
-abbrev given : ℕ → ℕ → ℕ → List ℕ → List ℕ → List Float → CodedFrame
-given duration bandwidth filters orders indices spectrum =
-    record { duration = duration; bandwidth = bandwidth; filters = filters; orders = orders; indices = indices; spectrum = spectrum }
 
 pub row_saved-requires : goal.row_saved-requires
 row_saved-requires c =

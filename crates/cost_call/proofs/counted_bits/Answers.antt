@@ -6,8 +6,9 @@ use Rattle.check_side.proofs.Sides.{checked_sound}
 use Rattle.cost_filter.specs.FilterCost.{whole_bits, filter_bits}
 use Rattle.cost_call.specs.Cost.{counted_bits}
 use Rattle.cost_call.proofs.Costs.{one_more, all_off}
-use Rattle.cost_call.proofs.AtPlace.{turn_at, cost_at}
+use Rattle.cost_call.proofs.AtPlace.{ItsTurn, turn_at, cost_at}
 use Rattle.cost_call.proofs.counted_bits.Goals as goal
+use Rattle.cost_call.proofs.counted_bits.Goals.{In-Some}
 
 -- both of two orders are 0, so every order is
 no_order : (orders : List ℕ) → length orders ≡ 2 → get_or orders 0 0 ≡ 0 → get_or orders 1 0 ≡ 0 → (i : ℕ) → get_or orders i 0 ≡ 0
@@ -22,49 +23,35 @@ returns-then-side-eq0-2 c =
     let g = c.args in
     let side = g.side.now in
     let two : length side.orders ≡ 2 = search rules in
-    let sound = checked_sound side two (search rules) in
     sym (all_off g.weighting side.filters side.orders side.indices (no_order side.orders two c.if-side-eq0.true c.if-side-eq0-2.true))
 
 pub loop-order-init : goal.loop-order-init
 unfolding counted_bits counted total
 loop-order-init c = record { all = refl; few = omega arith }
 
-pub filter_cost-cost-requires : goal.filter_cost-cost-requires
-filter_cost-cost-requires c =
-    let g = c.args in
-    let side = g.side.now in
-    let two : length side.orders ≡ 2 = search rules in
-    let sound = checked_sound side two (search rules) in
+-- the pair of a turn is a counted filter's
+its_turn : (c : In-Some)
+    → ItsTurn c.args.side.now.filters c.args.side.now.orders c.args.side.now.indices (length c.loop-order.yielded) c.in-Some.order.now c.in-Some.eight.now
+its_turn c =
+    let side = c.args.side.now in
     let l = c.loop-order in
-    let turn =
-    turn_at side.filters side.orders side.indices sound l.yielded c.into_iter-order-iterator.result l.order-iterator c.next.new.self (search rules) (search rules) l.yielded_by c.in-Some.order c.in-Some.eight c.in-Some.ensures.steps
-    in
-    turn.at_most_16
+    turn_at side.filters side.orders side.indices (checked_sound side (search rules) (search rules)) l.yielded c.into_iter-order-iterator.result l.order-iterator c.next.new.self
+    (search rules) (search rules) l.yielded_by c.in-Some.order c.in-Some.eight c.in-Some.ensures.steps
+
+pub filter_cost-cost-requires : goal.filter_cost-cost-requires
+filter_cost-cost-requires c = (its_turn (goal.at.filter_cost-cost-requires c).In-Some).at_most_16
 
 -- the cost of the filter at its place is small
 pub whole_bits-bits-requires : goal.whole_bits-bits-requires
-whole_bits-bits-requires c =
-    let g = c.args in
-    let side = g.side.now in
-    let two : length side.orders ≡ 2 = search rules in
-    let sound = checked_sound side two (search rules) in
-    let l = c.loop-order in
-    let turn =
-    turn_at side.filters side.orders side.indices sound l.yielded c.into_iter-order-iterator.result l.order-iterator c.next.new.self (search rules) (search rules) l.yielded_by c.in-Some.order c.in-Some.eight c.in-Some.ensures.steps
-    in
-    c.filter_cost-cost.ensures.few turn.at_most_8
+whole_bits-bits-requires c = c.filter_cost-cost.ensures.few (its_turn (goal.at.whole_bits-bits-requires c).In-Some).at_most_8
 
 pub loop-order-preserved : goal.loop-order-preserved
 unfolding filter_bits
 loop-order-preserved c =
     let g = c.args in
     let side = g.side.now in
-    let two : length side.orders ≡ 2 = search rules in
-    let sound = checked_sound side two (search rules) in
     let l = c.loop-order in
-    let turn =
-    turn_at side.filters side.orders side.indices sound l.yielded c.into_iter-order-iterator.result l.order-iterator c.next.new.self (search rules) (search rules) l.yielded_by c.in-Some.order c.in-Some.eight c.in-Some.ensures.steps
-    in
+    let turn = its_turn (goal.at.loop-order-preserved c).In-Some in
     let one = cost_at side.filters side.orders side.indices (length l.yielded) c.in-Some.order.now c.in-Some.eight.now turn g.weighting _ c.filter_cost-cost.ensures in
     let its_bits : c.whole_bits-bits.result ≡ filter_bits g.weighting (get_or side.orders (length l.yielded) 0) (take 8 (drop (8 * length l.yielded) side.indices)) =
     c.whole_bits-bits.ensures.bits ∙ ap whole_bits one
