@@ -27,7 +27,8 @@ fn index_costs(costs: &IndexCosts, order: u8, indices: &[u8; 8]) -> u32
 }
 
 // The cost of one filter in 2048ths of a bit, without the bit that every filter has: its order's and that of
-// its indices below the order. Nothing is rounded here; bits are `whole_bits` of it (C-15).
+// its indices below the order. Nothing is rounded here; bits are `whole_bits` of it (C-15). It requires indices of at
+// most 16, which whoever asks has checked.
 #[tactic(auto, using(crate::proofs::FilterCosts::off_priced, crate::proofs::FilterCosts::filter_cost_at_most, crate::proofs::FilterCosts::filter_cost_affordable), unfolding(crate::specs::FilterCost::filter_cost, crate::specs::FilterCost::order_cost))]
 pub fn filter_cost(costs: &IndexCosts, weighting: u8, order: u8, indices: &[u8; 8]) -> u32
     requires { EachAtMost 16 indices.now }

@@ -47,7 +47,8 @@ impl Standing {
     }
 
     // One read more is made. Where the program goes on and none is left to make, it ends there, and that is said as
-    // a failure: no run makes so many, but none may end as if its output were whole.
+    // a failure: no run makes so many, but none may end as if its output were whole. It requires that there was one left
+    // to make, which a `Ready` has.
     pub fn after_read(self, rt: &HostRuntime) -> Standing
         requires { self.reads < most_reads }
         ensures counted { result ≡ after_read self }

@@ -34,7 +34,8 @@ impl<const ROOM: usize> Text<ROOM> {
         }
     }
 
-    // So many of these bytes, as another has filled them.
+    // So many of these bytes, as another has filled them. It requires no more than there are, as whoever filled them
+    // promises.
     pub fn filled(bytes: [u8; ROOM], len: usize) -> Self
         requires { len ≤ ROOM }
         ensures { result ≡ take len bytes.entry }
